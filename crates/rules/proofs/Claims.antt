@@ -1,0 +1,148 @@
+-- The claims, proved.
+-- Assumes nothing.
+use mathlib.Core.Path.{_≡_, refl, sym, ap, _∙_}
+use mathlib.Core.Logic.{_↔_}
+use mathlib.Core.Bool.{Bool, true, false, not, cond, _&&_}
+use mathlib.Core.List.{List, [], _∷_}
+use mathlib.Core.Option.{Option, none, some}
+use Prim.Native.Nat.{ℕ, zero, suc}
+use Rattle.rules.specs.Refusals.{Refusal, firstOf, GivenBy}
+use Rattle.rules.specs.Tables.{Holding, nothingHeld, holding, withHolding, bridgeAt, withBridge, fixed}
+use Rattle.rules.specs.Place.{Place}
+use Rattle.rules.specs.Start.{StartInput, startRefusals, startNumber, startBy, startTable, tableOf}
+use Rattle.rules.specs.Osc.{recognised, query, oscAfter}
+use Rattle.rules.specs.Records.{Field, Found, recordRefusals, foundBy, findRecord, deciding, recordIn}
+use Rattle.rules.specs.Calls.{Operation, osc, Call, on, locate, numberAt, outcomeBy, bridgeBy, locateBy, locateRefusals, placeBy, windowOf, step, listed, lent, zeros, zerosOf, lentTo, tableAfter}
+use Rattle.rules.specs.History.{historyFrom}
+use Rattle.rules.specs.Claims.{RefusalsExactly, RefusedChangesNothing, TablesSound, History, QueriesChangeNothing, HeldUntilReset, ThereAndBack, BackAndThere, OneAddress, Separation, Negotiation}
+use Rattle.rules.specs.declared.Bridge.{Bridge}
+use Rattle.rules.specs.declared.Table.{Table}
+use Rattle.rules.proofs.Tests.{and-off}
+use Rattle.rules.proofs.Refusals.{exactly}
+use Rattle.rules.proofs.Local.{fixed-step, fixed-after, same-rows, refused-table}
+use Rattle.rules.proofs.Separation.{same-outcomes, same-holding}
+use Rattle.rules.proofs.Soundness.{sound-step, sound-after}
+use Rattle.rules.proofs.Reach.{number-by, no-shared-byte}
+use Rattle.rules.proofs.Places.{there-and-back-like, back-and-there-like, one-address-like}
+use Rattle.rules.proofs.Starting.{start-sound, start-holds}
+use Rattle.rules.proofs.History.{history-from, in-array, held-bit}
+use Rattle.rules.proofs.Negotiation.{negotiated}
+
+-- ---- refusals
+
+locate-number : (k : ℕ) (p : Place) → locateBy k p .number ≡ k
+locate-number zero p = refl
+locate-number (suc k) p = refl
+
+found-number : (k : ℕ) (o : Option Field) → foundBy k o .number ≡ k
+found-number zero none = refl
+found-number zero (some f) = refl
+found-number (suc k) o = refl
+
+call-number : (t : Table) (c : Call) → step t c .outcome .number ≡ firstOf (listed t c)
+unfolding step
+call-number t (on s n o) = number-by (numberAt (t .count) s n (bridgeAt t (n .0)) o) (bridgeAt t (n .0)) o
+call-number t (locate s a) = locate-number (firstOf (locateRefusals (fixed t) s a)) (placeBy (fixed t) a (windowOf (fixed t) s a))
+
+-- a number that is the first of a list is given by the list
+by-list : (n k : ℕ) (l : List Refusal) → n ≡ firstOf l → n ≡ k ↔ GivenBy k l
+by-list n k l e = (λ h. exactly k l .0 (sym e ∙ h), λ f. e ∙ exactly k l .1 f)
+
+pub refusals-exactly : RefusalsExactly
+unfolding startNumber
+refusals-exactly = (
+  λ t c k. by-list (step t c .outcome .number) k (listed t c) (call-number t c),
+  λ x k. by-list (startNumber x) k (startRefusals x) refl,
+  λ slot block type k. by-list (findRecord slot block type .number) k (recordRefusals slot block type)
+      (found-number (firstOf (recordRefusals slot block type)) (recordIn (deciding slot block) type)),
+)
+
+-- ---- refused calls
+
+call-refused : (t : Table) (c : Call) → (step t c .outcome .number ≡ 0 → ⊥)
+    → (step t c .table ≡ t) × (step t c .outcome .result ≡ zerosOf c) × (step t c .outcome .left ≡ lentTo c)
+unfolding step
+call-refused t (on s n o) = go (numberAt (t .count) s n (bridgeAt t (n .0)) o)
+  where
+    go : (k : ℕ) → (outcomeBy k (bridgeAt t (n .0)) o .number ≡ 0 → ⊥)
+        → (withBridge t (n .0) (bridgeBy k (bridgeAt t (n .0)) o) ≡ t) × (outcomeBy k (bridgeAt t (n .0)) o .result ≡ zeros o) × (outcomeBy k (bridgeAt t (n .0)) o .left ≡ lent o)
+    go zero r = absurd (r refl)
+    go (suc k) r = (refused-table t (n .0) k o, refl, refl)
+call-refused t (locate s a) = go (firstOf (locateRefusals (fixed t) s a)) (placeBy (fixed t) a (windowOf (fixed t) s a))
+  where
+    go : (k : ℕ) (p : Place) → (locateBy k p .number ≡ 0 → ⊥) → (t ≡ t) × (locateBy k p .result ≡ zerosOf (locate s a)) × (locateBy k p .left ≡ [])
+    go zero p r = absurd (r refl)
+    go (suc k) p r = (refl, refl, refl)
+
+start-refused : (k : ℕ) (x : StartInput) → (k ≡ 0 → ⊥) → startBy k x ≡ tableOf []
+start-refused zero x r = absurd (r refl)
+start-refused (suc k) x r = refl
+
+found-refused : (k : ℕ) (o : Option Field) → (foundBy k o .number ≡ 0 → ⊥) → foundBy k o .size ≡ 0
+found-refused zero none r = refl
+found-refused zero (some f) r = absurd (r refl)
+found-refused (suc k) o r = refl
+
+pub refused-changes-nothing : RefusedChangesNothing
+unfolding startTable
+refused-changes-nothing = (
+  call-refused,
+  λ x. start-refused (startNumber x) x,
+  λ slot block type. found-refused (firstOf (recordRefusals slot block type)) (recordIn (deciding slot block) type),
+)
+
+-- ---- tables
+
+pub tables-sound : TablesSound
+tables-sound = (
+  start-sound,
+  sound-step,
+  λ t c. (ap (λ (x : Table). x .count) (fixed-step t c), same-rows (step t c .table) t (fixed-step t c)),
+)
+
+pub history-holds : History
+history-holds x l i h =
+    history-from (startTable x) i l (startTable x) refl (in-array (startTable x) (start-sound x) i h)
+    ∙ ap (λ (y : Holding). historyFrom (startTable x) i y l) (start-holds x i)
+
+pub queries-change-nothing : QueriesChangeNothing
+unfolding step oscAfter
+queries-change-nothing t s n revision count uuid caps answer q =
+    go (numberAt (t .count) s n (bridgeAt t (n .0)) (osc revision count uuid caps answer))
+  where
+    unchanged : withHolding (bridgeAt t (n .0)) (oscAfter (bridgeAt t (n .0)) revision count uuid caps) ≡ bridgeAt t (n .0)
+    unchanged = rw (q, and-off (recognised revision count uuid))
+
+    go : (k : ℕ) → withBridge t (n .0) (bridgeBy k (bridgeAt t (n .0)) (osc revision count uuid caps answer)) ≡ t
+    go zero = ap (withBridge t (n .0)) unchanged ∙ refused-table t (n .0) 0 (osc revision count uuid caps answer)
+    go (suc k) = refused-table t (n .0) k (osc revision count uuid caps answer)
+
+pub held-until-reset : HeldUntilReset
+held-until-reset x l c i j h e r = held-bit (tableAfter (startTable x) l) (sound-after (startTable x) l (start-sound x)) c i j h e r
+
+-- ---- places: any two tables of runs from one start differ in nothing fixed
+
+module _ (x : StartInput) (l m : List Call) where
+  two-runs : fixed (tableAfter (startTable x) l) ≡ fixed (tableAfter (startTable x) m)
+  two-runs = fixed-after l (startTable x) ∙ sym (fixed-after m (startTable x))
+
+pub there-and-back : ThereAndBack
+there-and-back x l m = there-and-back-like (tableAfter (startTable x) l) (tableAfter (startTable x) m) (two-runs x l m) (sound-after (startTable x) m (start-sound x))
+
+pub back-and-there : BackAndThere
+back-and-there x l m = back-and-there-like (tableAfter (startTable x) l) (tableAfter (startTable x) m) (two-runs x l m) (sound-after (startTable x) m (start-sound x))
+
+pub one-address : OneAddress
+one-address x l m = one-address-like (tableAfter (startTable x) l) (tableAfter (startTable x) m) (two-runs x l m) (sound-after (startTable x) m (start-sound x))
+
+-- ---- separation and negotiation
+
+pub separation : Separation
+separation x s l m e = record {
+  same-outcomes = same-outcomes s (startTable x) l m e;
+  same-holding = same-holding s (startTable x) l m e;
+  no-shared-byte = no-shared-byte (start-sound x);
+}
+
+pub negotiation : Negotiation
+negotiation x before l m = negotiated (tableAfter (startTable x) before) (sound-after (startTable x) before (start-sound x)) l m

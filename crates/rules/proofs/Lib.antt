@@ -1,0 +1,17 @@
+pub mod BenchSheet
+pub mod Tests
+pub mod Refusals
+pub mod Bits
+pub mod Sets
+pub mod Granting
+pub mod Indexed
+pub mod Local
+pub mod Separation
+pub mod Soundness
+pub mod Reach
+pub mod Places
+pub mod Lists
+pub mod Starting
+pub mod History
+pub mod Negotiation
+pub mod Claims

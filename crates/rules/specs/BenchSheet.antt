@@ -1,0 +1,89 @@
+-- The bench sheet: each starred line, with what the definitions give and what the sheet states. P permitted, H held, R requested, G granted.
+use Prim.Native.Nat.{ℕ}
+use mathlib.Core.Path.{_≡_}
+use mathlib.Core.Bool.{Bool, true, false}
+use mathlib.Core.List.{List, [], _∷_}
+use lib.ListN.{replicate}
+use Rattle.rules.specs.Mcfg.{entrySound}
+use Rattle.rules.specs.Records.{andOr, blockSound}
+use Rattle.rules.specs.Calls.{Operation, osc, address, Result, addressed, Outcome, numberAt, outcomeBy, bridgeBy}
+use Rattle.rules.specs.Claims.{answerOf}
+use Rattle.rules.specs.declared.Bridge.{Bridge}
+
+infix 30 _gives_
+pub data Line : Type 1 where
+  _gives_ : {A : Type 0} → A → A → Line
+
+-- every line of a list holds
+abbrev pub AllHold : List Line → Type 0
+AllHold [] = Unit {0}
+AllHold ((a gives b) ∷ l) = (a ≡ b) × AllHold l
+
+-- an answer buffer, and H after the call
+pub record Answered : Type 0 where
+  pub answer : List ℕ
+  pub held : ℕ
+
+-- a bridge of session 1 with base 0xE0000000 and buses 1 to 2
+abbrev pub bridgeWith : (permitted held : ℕ) → Bridge
+bridgeWith p h = record {
+  base = 0xE0000000;
+  permitted = p;
+  held = h;
+  supported = 0;
+  segment = 0;
+  owner = record { 0 = 1 };
+  «first_bus» = 1;
+  «last_bus» = 2;
+}
+
+-- the owner's operation on it, as bridge 0 of one
+abbrev pub numberOn : Bridge → Operation → ℕ
+numberOn b o = numberAt 1 (record { 0 = 1 }) (record { 0 = 0 }) b o
+
+abbrev pub oscOn : (permitted held : ℕ) → (caps : List ℕ) → Answered
+oscOn p h caps =
+    let b = bridgeWith p h in
+    let o = osc 1 3 (0x5B ∷ 0x4D ∷ 0xDB ∷ 0x33 ∷ 0xF7 ∷ 0x1F ∷ 0x1C ∷ 0x40 ∷ 0x96 ∷ 0x57 ∷ 0x74 ∷ 0x41 ∷ 0xC0 ∷ 0x3D ∷ 0xD7 ∷ 0x66 ∷ []) caps (replicate 12 0xAA) in
+    record { answer = answerOf (outcomeBy (numberOn b o) b o); held = bridgeBy (numberOn b o) b o .held }
+
+abbrev pub addressOn : Bridge → (bus device function offset : ℕ) → Result
+addressOn b bus device function offset = outcomeBy (numberOn b (address bus device function offset 1)) b (address bus device function offset 1) .result
+
+abbrev pub sheet : List Line
+sheet =
+    -- query, DWORDs 01000000 1F000000 1F000000, P 0x1F, H 0: answer 00000000 1F000000 1F000000, H 0
+    (oscOn 0x1F 0 (1 ∷ 0 ∷ 0 ∷ 0 ∷ 0x1F ∷ 0 ∷ 0 ∷ 0 ∷ 0x1F ∷ 0 ∷ 0 ∷ 0 ∷ [])
+    gives record { answer = 0 ∷ 0 ∷ 0 ∷ 0 ∷ 0x1F ∷ 0 ∷ 0 ∷ 0 ∷ 0x1F ∷ 0 ∷ 0 ∷ 0 ∷ []; held = 0 })
+    -- P 0x1F, H 0, R 0x0D: G 0, status 0x10
+    ∷ (oscOn 0x1F 0 (0 ∷ 0 ∷ 0 ∷ 0 ∷ 0 ∷ 0 ∷ 0 ∷ 0 ∷ 0x0D ∷ 0 ∷ 0 ∷ 0 ∷ [])
+    gives record { answer = 0x10 ∷ 0 ∷ 0 ∷ 0 ∷ 0 ∷ 0 ∷ 0 ∷ 0 ∷ 0 ∷ 0 ∷ 0 ∷ 0 ∷ []; held = 0 })
+    -- P 0x0F, H 0, R 0x1F: G 0x02, status 0x10
+    ∷ (oscOn 0x0F 0 (0 ∷ 0 ∷ 0 ∷ 0 ∷ 0 ∷ 0 ∷ 0 ∷ 0 ∷ 0x1F ∷ 0 ∷ 0 ∷ 0 ∷ [])
+    gives record { answer = 0x10 ∷ 0 ∷ 0 ∷ 0 ∷ 0 ∷ 0 ∷ 0 ∷ 0 ∷ 0x02 ∷ 0 ∷ 0 ∷ 0 ∷ []; held = 0x02 })
+    -- P 0x1F, H 0x10, R 0x01: G 0x01, status 0, H 0x11
+    ∷ (oscOn 0x1F 0x10 (0 ∷ 0 ∷ 0 ∷ 0 ∷ 0 ∷ 0 ∷ 0 ∷ 0 ∷ 0x01 ∷ 0 ∷ 0 ∷ 0 ∷ [])
+    gives record { answer = 0 ∷ 0 ∷ 0 ∷ 0 ∷ 0 ∷ 0 ∷ 0 ∷ 0 ∷ 0x01 ∷ 0 ∷ 0 ∷ 0 ∷ []; held = 0x11 })
+    -- P 0x1F, H 0, R 0x3F: G 0x1F, status 0x10
+    ∷ (oscOn 0x1F 0 (0 ∷ 0 ∷ 0 ∷ 0 ∷ 0 ∷ 0 ∷ 0 ∷ 0 ∷ 0x3F ∷ 0 ∷ 0 ∷ 0 ∷ [])
+    gives record { answer = 0x10 ∷ 0 ∷ 0 ∷ 0 ∷ 0 ∷ 0 ∷ 0 ∷ 0 ∷ 0x1F ∷ 0 ∷ 0 ∷ 0 ∷ []; held = 0x1F })
+    -- P 0x1F, H 0x1F, R 0x02: G 0x02, status 0, H 0x1F
+    ∷ (oscOn 0x1F 0x1F (0 ∷ 0 ∷ 0 ∷ 0 ∷ 0 ∷ 0 ∷ 0 ∷ 0 ∷ 0x02 ∷ 0 ∷ 0 ∷ 0 ∷ [])
+    gives record { answer = 0 ∷ 0 ∷ 0 ∷ 0 ∷ 0 ∷ 0 ∷ 0 ∷ 0 ∷ 0x02 ∷ 0 ∷ 0 ∷ 0 ∷ []; held = 0x1F })
+    -- base 0xE0000000, place 1/2/3 offset 0x10: 0xE0113010
+    ∷ (addressOn (bridgeWith 0 0) 1 2 3 0x10 gives addressed 0xE0113010)
+    -- entry base 0xFFFFFFFFF0000000, buses 0 to 255: sound
+    ∷ (entrySound (record { base = 0xFFFFFFFFF0000000; segment = 0; startBus = 0; endBus = 255 }) gives true)
+    -- base 0xFFFFFFFFF0100000, end 255: unsound; end 254: sound
+    ∷ (entrySound (record { base = 0xFFFFFFFFF0100000; segment = 0; startBus = 0; endBus = 255 }) gives false)
+    ∷ (entrySound (record { base = 0xFFFFFFFFF0100000; segment = 0; startBus = 0; endBus = 254 }) gives true)
+    -- current 0x2110, AND 0xFFFFFFF0, OR 0x6: 0x2116
+    ∷ (andOr 0x2110 0xFFFFFFF0 0x6 gives 0x2116)
+    -- the 42-byte block, the example of document 002: sound
+    ∷ (blockSound (
+    0x00 ∷ 0x14 ∷ 0x00 ∷ 1 ∷ 0 ∷ 0 ∷ 0 ∷ 8 ∷ 0 ∷ 0 ∷ 0 ∷ 0x40 ∷ 0 ∷ 0 ∷ 0 ∷ 1 ∷ 0 ∷ 0 ∷ 0 ∷ 0 ∷ 0 ∷ 0 ∷ 0
+    ∷ 0x01 ∷ 0x10 ∷ 0x00 ∷ 1 ∷ 0 ∷ 0 ∷ 0 ∷ 3 ∷ 0 ∷ 0 ∷ 0 ∷ 4 ∷ 0 ∷ 0 ∷ 0 ∷ 7 ∷ 0 ∷ 0 ∷ 0 ∷ []) gives true)
+    ∷ []
+
+abbrev pub BenchSheet : Type 0
+BenchSheet = AllHold sheet

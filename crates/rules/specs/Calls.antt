@@ -1,0 +1,204 @@
+-- The calls on a table: what each refuses, hands back, leaves and changes; one call, and lists of calls.
+use Prim.Native.Nat.{ℕ, zero, suc}
+use mathlib.Core.Bool.{Bool, not, cond}
+use mathlib.Core.List.{List, [], _∷_}
+use mathlib.Core.Option.{Option, none, some}
+use lib.Dec.{eqb, leb}
+use lib.ListN.{replicate}
+use Rattle.rules.specs.Lists.{find, isNone}
+use Rattle.rules.specs.Numbers.{bit}
+use Rattle.rules.specs.Refusals.{Refusal, _if_, firstOf}
+use Rattle.rules.specs.Tables.{Holding, nothingHeld, holding, withHolding, owns, bridgeAt, bridgesOf, withBridge, fixed}
+use Rattle.rules.specs.Place.{Place, addressOf, placeBad, busOutside, ownWindow, placeOf, noPlace}
+use Rattle.rules.specs.Osc.{framed, oscAnswer, oscAfter}
+use Rattle.rules.specs.Records.{Field, blockSound, deciding, recordIn, registersBad, newValues}
+use Rattle.rules.specs.declared.Bridge.{Bridge}
+use Rattle.rules.specs.declared.BridgeNumber.{BridgeNumber}
+use Rattle.rules.specs.declared.SessionNumber.{SessionNumber}
+use Rattle.rules.specs.declared.Table.{Table}
+
+-- what is asked of one bridge, with the other numbers and the bytes lent
+pub data Operation : Type 0 where
+  osc : (revision count : ℕ) (uuid capabilities answer : List ℕ) → Operation
+  reset : Operation
+  report : Operation
+  address : (bus device function offset width : ℕ) → Operation
+  registerValues : (slot block current : List ℕ) → Operation
+
+-- "A list gives each call its kind, its session number, its other numbers and the bytes lent to it"; locate is document 01's "back"
+pub data Call : Type 0 where
+  on : SessionNumber → BridgeNumber → Operation → Call
+  locate : SessionNumber → (at : ℕ) → Call
+
+-- "The result is all that the call hands back beside its number and the table"
+pub data Result : Type 0 where
+  nothing : Result
+  reported : Holding → Result
+  addressed : ℕ → Result
+  located : Place → Result
+  values : List ℕ → Result
+
+-- number, result, and "the bytes it leaves" in every buffer lent to it
+pub record Outcome : Type 0 where
+  pub number : ℕ
+  pub result : Result
+  pub left : List (List ℕ)
+
+-- ---- an operation on bridge n of a table with `count` bridges, by session s; b is the bridge's row
+
+-- the numbers that a call checks, in its order
+abbrev pub refusals : (count : ℕ) → SessionNumber → BridgeNumber → Bridge → Operation → List Refusal
+refusals count s n b (osc revision dwords uuid caps answer) =
+    (1 if leb count (n .0)) ∷ (2 if not (owns s b)) ∷ (3 if not (framed dwords uuid caps answer)) ∷ []
+refusals count s n b reset = (1 if leb count (n .0)) ∷ (2 if not (owns s b)) ∷ []
+refusals count s n b report = (1 if leb count (n .0)) ∷ (2 if not (owns s b)) ∷ []
+refusals count s n b (address bus device function offset width) =
+    (1 if leb count (n .0)) ∷ (2 if not (owns s b)) ∷ (5 if placeBad device function offset width) ∷ (4 if busOutside b bus) ∷ []
+refusals count s n b (registerValues slot block current) =
+    (1 if leb count (n .0))
+    ∷ (2 if not (owns s b))
+    ∷ (11 if not (bit (b .held) 0))
+    ∷ (10 if registersBad current)
+    ∷ (8 if not (blockSound (deciding slot block)))
+    ∷ (9 if isNone (recordIn (deciding slot block) 2))
+    ∷ []
+
+abbrev pub valuesBy : Bridge → List ℕ → List ℕ → Option Field → List ℕ
+valuesBy b l current none = replicate 8 0
+valuesBy b l current (some f) = newValues (bit (b .held) 3) l f 0 current
+
+-- what an accepted call hands back
+abbrev pub result : Bridge → Operation → Result
+result b (osc revision count uuid caps answer) = nothing
+result b reset = nothing
+result b report = reported (holding b)
+result b (address bus device function offset width) = addressed (addressOf b bus device function offset)
+result b (registerValues slot block current) = values (valuesBy b (deciding slot block) current (recordIn (deciding slot block) 2))
+
+-- the bytes it leaves
+abbrev pub left : Bridge → Operation → List (List ℕ)
+left b (osc revision count uuid caps answer) = uuid ∷ caps ∷ oscAnswer b revision count uuid caps ∷ []
+left b reset = []
+left b report = []
+left b (address bus device function offset width) = []
+left b (registerValues slot block current) = slot ∷ block ∷ current ∷ []
+
+-- what the bridge then holds
+abbrev pub after : Bridge → Operation → Holding
+after b (osc revision count uuid caps answer) = oscAfter b revision count uuid caps
+after b reset = nothingHeld
+after b report = holding b
+after b (address bus device function offset width) = holding b
+after b (registerValues slot block current) = holding b
+
+-- "A refused call hands back zeros"
+abbrev pub zeros : Operation → Result
+zeros (osc revision count uuid caps answer) = nothing
+zeros reset = nothing
+zeros report = reported nothingHeld
+zeros (address bus device function offset width) = addressed 0
+zeros (registerValues slot block current) = values (replicate 8 0)
+
+-- the buffers as lent
+abbrev pub lent : Operation → List (List ℕ)
+lent (osc revision count uuid caps answer) = uuid ∷ caps ∷ answer ∷ []
+lent reset = []
+lent report = []
+lent (address bus device function offset width) = []
+lent (registerValues slot block current) = slot ∷ block ∷ current ∷ []
+
+abbrev pub numberAt : (count : ℕ) → SessionNumber → BridgeNumber → Bridge → Operation → ℕ
+numberAt count s n b o = firstOf (refusals count s n b o)
+
+-- by the number: 0 does the operation, any other changes nothing
+abbrev pub outcomeBy : ℕ → Bridge → Operation → Outcome
+outcomeBy zero b o = record { number = 0; result = result b o; left = left b o }
+outcomeBy (suc k) b o = record { number = suc k; result = zeros o; left = lent o }
+
+abbrev pub bridgeBy : ℕ → Bridge → Operation → Bridge
+bridgeBy zero b o = withHolding b (after b o)
+bridgeBy (suc k) b o = b
+
+-- ---- locate: "it lies in no bridge of this session" is 4, and no other number is checked
+
+abbrev pub windowOf : Table → SessionNumber → ℕ → Option ℕ
+windowOf t s a = find (ownWindow s a) (bridgesOf t) 0
+
+abbrev pub locateRefusals : Table → SessionNumber → ℕ → List Refusal
+locateRefusals t s a = (4 if isNone (windowOf t s a)) ∷ []
+
+abbrev pub placeBy : Table → ℕ → Option ℕ → Place
+placeBy t a none = noPlace
+placeBy t a (some i) = placeOf i (bridgeAt t i) a
+
+abbrev pub locateBy : ℕ → Place → Outcome
+locateBy zero p = record { number = 0; result = located p; left = [] }
+locateBy (suc k) p = record { number = suc k; result = located noPlace; left = [] }
+
+abbrev pub locateIn : Table → SessionNumber → ℕ → Outcome
+locateIn t s a = locateBy (firstOf (locateRefusals t s a)) (placeBy t a (windowOf t s a))
+
+-- ---- one call on a table: its outcome and the table after it
+
+pub record Step : Type 0 where
+  pub outcome : Outcome
+  pub table : Table
+
+-- a call on a bridge stores back that bridge's row; locate reads what no call changes
+unfoldable pub step : Table → Call → Step
+step t (on s n o) =
+    let b = bridgeAt t (n .0) in
+    let k = numberAt (t .count) s n b o in
+    record { outcome = outcomeBy k b o; table = withBridge t (n .0) (bridgeBy k b o) }
+step t (locate s a) = record { outcome = locateIn (fixed t) s a; table = t }
+
+-- the refusals listed for a call, in its order
+abbrev pub listed : Table → Call → List Refusal
+listed t (on s n o) = refusals (t .count) s n (bridgeAt t (n .0)) o
+listed t (locate s a) = locateRefusals (fixed t) s a
+
+-- what a refused call hands back, and the buffers lent to a call
+abbrev pub zerosOf : Call → Result
+zerosOf (on s n o) = zeros o
+zerosOf (locate s a) = located noPlace
+
+abbrev pub lentTo : Call → List (List ℕ)
+lentTo (on s n o) = lent o
+lentTo (locate s a) = []
+
+-- ---- lists of calls
+
+-- the table after a list
+abbrev pub tableAfter : Table → List Call → Table
+tableAfter t [] = t
+tableAfter t (c ∷ l) = tableAfter (step t c .table) l
+
+-- what each call gave, in order
+abbrev pub outcomes : Table → List Call → List Outcome
+outcomes t [] = []
+outcomes t (c ∷ l) = step t c .outcome ∷ outcomes (step t c .table) l
+
+abbrev pub sessionOf : Call → SessionNumber
+sessionOf (on s n o) = s
+sessionOf (locate s a) = s
+
+abbrev pub isUnder : SessionNumber → Call → Bool
+isUnder s c = eqb (sessionOf c .0) (s .0)
+
+-- the calls under one session number, and what they gave
+abbrev pub callsOf : SessionNumber → List Call → List Call
+callsOf s [] = []
+callsOf s (c ∷ l) = cond (isUnder s c) (c ∷ callsOf s l) (callsOf s l)
+
+abbrev pub outcomesOf : SessionNumber → Table → List Call → List Outcome
+outcomesOf s t [] = []
+outcomesOf s t (c ∷ l) = cond (isUnder s c) (step t c .outcome ∷ outcomesOf s (step t c .table) l) (outcomesOf s (step t c .table) l)
+
+-- the width that an address is asked for
+abbrev pub widthOf : Call → Option ℕ
+widthOf (on s n (osc revision count uuid caps answer)) = none
+widthOf (on s n reset) = none
+widthOf (on s n report) = none
+widthOf (on s n (address bus device function offset width)) = some width
+widthOf (on s n (registerValues slot block current)) = none
+widthOf (locate s a) = none

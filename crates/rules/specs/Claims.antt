@@ -1,0 +1,188 @@
+-- The claims: each one closed statement, for every MCFG byte string and every list of rows, refused starts included.
+use mathlib.Core.Path.{_≡_}
+use mathlib.Core.Logic.{_↔_, _⊎_}
+use mathlib.Core.Bool.{Bool, true, false}
+use mathlib.Core.List.{List, [], _∷_}
+use mathlib.Core.Option.{some}
+use Prim.Native.Nat.{ℕ, _<_}
+use lib.Bits.{bitOr}
+use lib.ListN.{length, getD}
+use Rattle.rules.specs.Lists.{every, pairwise}
+use Rattle.rules.specs.Numbers.{bit}
+use Rattle.rules.specs.Refusals.{GivenBy}
+use Rattle.rules.specs.Tables.{holding, cleared, owns, bridgeAt}
+use Rattle.rules.specs.Place.{Place, InReach}
+use Rattle.rules.specs.Start.{StartInput, startRefusals, startNumber, startTable, tableOf, Sound}
+use Rattle.rules.specs.Osc.{grantedBit, granted, uuidBytes, status, query, control}
+use Rattle.rules.specs.Records.{recordRefusals, findRecord}
+use Rattle.rules.specs.Calls.{osc, reset, address, Call, on, locate, Result, addressed, located, Outcome, step, listed, zerosOf, lentTo, tableAfter, sessionOf, callsOf, outcomesOf, widthOf}
+use Rattle.rules.specs.History.{history, reaches, takesOrResets}
+use Rattle.rules.specs.declared.Bridge.{Bridge}
+use Rattle.rules.specs.declared.BridgeNumber.{BridgeNumber}
+use Rattle.rules.specs.declared.SessionNumber.{SessionNumber}
+use Rattle.rules.specs.declared.Table.{Table}
+
+-- ---- the tests over lists and the granted set mean what they say
+
+abbrev pub EveryAndPair : Type 1
+EveryAndPair = (A : Type 0) (d : A) (l : List A)
+    → ((p : A → Bool) → every p l ≡ true ↔ ((i : ℕ) → i < length l → p (getD l i d) ≡ true))
+    × ((p : A → A → Bool) → pairwise p l ≡ true ↔ ((i j : ℕ) → i < j → j < length l → p (getD l i d) (getD l j d) ≡ true))
+
+abbrev pub GrantedBits : Type 0
+GrantedBits = (b : Bridge) (support requested i : ℕ) → bit (granted b support requested) i ≡ grantedBit b support requested i
+
+-- ---- demand 1: a listed refusal exactly when its condition holds and none earlier does
+
+abbrev pub RefusalsExactly : Type 0
+RefusalsExactly =
+    ((t : Table) (c : Call) (k : ℕ) → step t c .outcome .number ≡ k ↔ GivenBy k (listed t c))
+    × ((x : StartInput) (k : ℕ) → startNumber x ≡ k ↔ GivenBy k (startRefusals x))
+    × ((slot block : List ℕ) (type k : ℕ) → findRecord slot block type .number ≡ k ↔ GivenBy k (recordRefusals slot block type))
+
+-- "A refused call hands back zeros (or the empty part) beside its number and changes nothing"
+abbrev pub RefusedChangesNothing : Type 0
+RefusedChangesNothing =
+    ((t : Table) (c : Call) → (step t c .outcome .number ≡ 0 → ⊥)
+    → (step t c .table ≡ t) × (step t c .outcome .result ≡ zerosOf c) × (step t c .outcome .left ≡ lentTo c))
+    × ((x : StartInput) → (startNumber x ≡ 0 → ⊥) → startTable x ≡ tableOf [])
+    × ((slot block : List ℕ) (type : ℕ) → (findRecord slot block type .number ≡ 0 → ⊥) → findRecord slot block type .size ≡ 0)
+
+-- ---- what start leaves and every call keeps
+
+abbrev pub TablesSound : Type 0
+TablesSound =
+    ((x : StartInput) → Sound (startTable x))
+    × ((t : Table) (c : Call) → Sound t → Sound (step t c .table))
+    × ((t : Table) (c : Call) → (step t c .table .count ≡ t .count) × ((i : ℕ) → cleared (bridgeAt (step t c .table) i) ≡ cleared (bridgeAt t i)))
+
+-- ---- demand 2: after any list of calls each bridge holds what the rules read off that list
+
+abbrev pub History : Type 0
+History = (x : StartInput) (l : List Call) (i : ℕ) → i < startTable x .count
+    → holding (bridgeAt (tableAfter (startTable x) l) i) ≡ history (startTable x) i l
+
+-- "A query changes nothing"
+abbrev pub QueriesChangeNothing : Type 0
+QueriesChangeNothing = (t : Table) (s : SessionNumber) (n : BridgeNumber) (revision count : ℕ) (uuid caps answer : List ℕ)
+    → query caps ≡ true → step t (on s n (osc revision count uuid caps answer)) .table ≡ t
+
+-- "Held bits leave only by reset of that bridge"
+abbrev pub HeldUntilReset : Type 0
+HeldUntilReset = (x : StartInput) (l : List Call) (c : Call) (i j : ℕ)
+    → let t : Table = tableAfter (startTable x) l in
+    i < t .count → bit (bridgeAt t i .held) j ≡ true
+    → ((s : SessionNumber) (n : BridgeNumber) → c ≡ on s n reset → reaches t i s n ≡ false)
+    → bit (bridgeAt (step t c .table) i .held) j ≡ true
+
+-- ---- an address leads back to its one place, a place to its one address
+
+abbrev pub addressCall : SessionNumber → Place → (width : ℕ) → Call
+addressCall s p width = on s (p .bridge) (address (p .bus) (p .device) (p .function) (p .offset) width)
+
+-- accepted, with this result and no buffer
+abbrev pub answers : Result → Outcome
+answers r = record { number = 0; result = r; left = [] }
+
+-- "An address given to a session, read back under that session, gives the place asked for", at any two times
+abbrev pub ThereAndBack : Type 0
+ThereAndBack = (x : StartInput) (l m : List Call) (s : SessionNumber) (p : Place) (width a : ℕ)
+    → step (tableAfter (startTable x) l) (addressCall s p width) .outcome ≡ answers (addressed a)
+    → step (tableAfter (startTable x) m) (locate s a) .outcome ≡ answers (located p)
+
+-- "a place so read, asked for under that session with width 1, gives that address"
+abbrev pub BackAndThere : Type 0
+BackAndThere = (x : StartInput) (l m : List Call) (s : SessionNumber) (p : Place) (a : ℕ)
+    → step (tableAfter (startTable x) l) (locate s a) .outcome ≡ answers (located p)
+    → step (tableAfter (startTable x) m) (addressCall s p 1) .outcome ≡ answers (addressed a)
+
+-- no two places have one address, whoever asks, and no place has two
+abbrev pub OneAddress : Type 0
+OneAddress = (x : StartInput) (l m : List Call) (s r : SessionNumber) (p q : Place) (v w a b : ℕ)
+    → step (tableAfter (startTable x) l) (addressCall s p v) .outcome ≡ answers (addressed a)
+    → step (tableAfter (startTable x) m) (addressCall r q w) .outcome ≡ answers (addressed b)
+    → (a ≡ b) ↔ (p ≡ q)
+
+-- ---- demand 3: one statement about two lists
+
+-- "An address is given to a session when an address call under that session number answers 0 with it": somewhere in the run of the list from t
+pub data Given (s : SessionNumber) (a width : ℕ) : Table → List Call → Type 0 where
+  now : {t : Table} {c : Call} {l : List Call} → sessionOf c ≡ s → widthOf c ≡ some width
+      → step t c .outcome .number ≡ 0 → step t c .outcome .result ≡ addressed a → Given s a width t (c ∷ l)
+  later : {t : Table} {c : Call} {l : List Call} → Given s a width (step t c .table) l → Given s a width t (c ∷ l)
+
+-- from one table, in two lists
+pub record Separate (s : SessionNumber) (t : Table) (l m : List Call) : Type 0 where
+  -- the session "gets the same numbers, results and bytes"
+  pub same-outcomes : outcomesOf s t l ≡ outcomesOf s t m
+  -- "its bridges hold the same at the end"
+  pub same-holding : (i : ℕ) → owns s (bridgeAt t i) ≡ true → holding (bridgeAt (tableAfter t l) i) ≡ holding (bridgeAt (tableAfter t m) i)
+  -- no byte in reach of one session's address is in reach of another's, whichever run gave each
+  pub no-shared-byte : (q r : SessionNumber) → (q ≡ r → ⊥) → (a v b w : ℕ) → Given q a v t l ⊎ Given q a v t m → Given r b w t l ⊎ Given r b w t m
+      → (x : ℕ) → InReach a v x → InReach b w x → ⊥
+
+abbrev pub Separation : Type 0
+Separation = (x : StartInput) (s : SessionNumber) (l m : List Call) → callsOf s l ≡ callsOf s m → Separate s (startTable x) l m
+
+-- ---- negotiation
+
+-- the buffers of an _OSC call with Count 3
+pub record Buffers : Type 0 where
+  pub caps : List ℕ
+  pub answer : List ℕ
+  pub caps-length : length caps ≡ 12
+  pub answer-length : length answer ≡ 12
+
+-- "right framing, UUID, revision and Count 3"
+abbrev pub rightCall : SessionNumber → BridgeNumber → Buffers → Call
+rightCall s n b = on s n (osc 1 3 uuidBytes (b .caps) (b .answer))
+
+-- the answer buffer that an _OSC call leaves
+abbrev pub answerOf : Outcome → List ℕ
+answerOf o = getD (o .left) 2 []
+
+-- "no other taking call or reset reaches that bridge"
+abbrev pub Undisturbed : Table → ℕ → List Call → Type 0
+Undisturbed t i [] = Unit {0}
+Undisturbed t i (c ∷ l) = (takesOrResets t i c ≡ false) × Undisturbed t i l
+
+-- "two queries and a taking call" to bridge n of s from the table t on, with the calls l and m between the three
+module _ (t : Table) (s : SessionNumber) (n : BridgeNumber) (first second taking : Buffers) (l m : List Call) where
+  abbrev pub atSecond : Table
+  atSecond = tableAfter t (rightCall s n first ∷ l)
+
+  abbrev pub atTaking : Table
+  atTaking = tableAfter atSecond (rightCall s n second ∷ m)
+
+  abbrev pub firstOutcome : Outcome
+  firstOutcome = step t (rightCall s n first) .outcome
+
+  abbrev pub secondOutcome : Outcome
+  secondOutcome = step atSecond (rightCall s n second) .outcome
+
+  abbrev pub takingOutcome : Outcome
+  takingOutcome = step atTaking (rightCall s n taking) .outcome
+
+  -- the control DWORD returned by the first query
+  abbrev pub returned : ℕ
+  returned = control (answerOf firstOutcome)
+
+  -- "The second answer is never masked, and the taking call grants exactly those bits", which are then held
+  pub record Negotiated : Type 0 where
+    pub second-number : secondOutcome .number ≡ 0
+    pub second-status : status (answerOf secondOutcome) ≡ 0
+    pub second-control : control (answerOf secondOutcome) ≡ returned
+    pub taking-number : takingOutcome .number ≡ 0
+    pub taking-status : status (answerOf takingOutcome) ≡ 0
+    pub taking-control : control (answerOf takingOutcome) ≡ returned
+    pub held-after : bridgeAt (step atTaking (rightCall s n taking) .table) (n .0) .held ≡ bitOr (bridgeAt t (n .0) .held) returned
+
+abbrev pub Negotiation : Type 0
+Negotiation = (x : StartInput) (before l m : List Call) (s : SessionNumber) (n : BridgeNumber) (first second taking : Buffers)
+    → let t : Table = tableAfter (startTable x) before in
+    n .0 < t .count → owns s (bridgeAt t (n .0)) ≡ true
+    → query (first .caps) ≡ true → query (second .caps) ≡ true → query (taking .caps) ≡ false
+    → Undisturbed t (n .0) l → Undisturbed t (n .0) m
+    → control (second .caps) ≡ returned t s n first second taking l m
+    → control (taking .caps) ≡ returned t s n first second taking l m
+    → Negotiated t s n first second taking l m

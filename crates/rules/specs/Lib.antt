@@ -1,0 +1,14 @@
+pub mod Limits
+pub mod Numbers
+pub mod Lists
+pub mod Refusals
+pub mod Tables
+pub mod Mcfg
+pub mod Place
+pub mod Osc
+pub mod Start
+pub mod Records
+pub mod Calls
+pub mod History
+pub mod Claims
+pub mod BenchSheet

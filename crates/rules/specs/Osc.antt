@@ -1,0 +1,98 @@
+-- Granting control: _OSC framing, the granting rule, the answer, and what a call adds.
+use Prim.Native.Nat.{ℕ, _+_, _-_, _*_, _^_}
+use mathlib.Core.Bool.{Bool, not, cond, _&&_, _||_}
+use mathlib.Core.List.{List, [], _∷_, _++_}
+use lib.Bits.{bitAnd, bitOr}
+use lib.Dec.{eqb, leb, ltb}
+use lib.ListN.{length, getD, replicate}
+use Rattle.rules.specs.Numbers.{dword, le32, sameBytes, bit, within, number}
+use Rattle.rules.specs.Tables.{Holding, holding}
+use Rattle.rules.specs.declared.Bridge.{Bridge}
+
+-- the control bits from 0 up, each as the set of control bits that it needs
+abbrev pub controlNeeds : List ℕ
+controlNeeds =
+    0x10  -- 0 Express hot plug
+    ∷ 0  -- 1 SHPC hot plug
+    ∷ 0x10  -- 2 PME
+    ∷ 0x10  -- 3 AER
+    ∷ 0  -- 4 Express capability structure
+    ∷ []
+
+-- control bits 0 to 4; support bits 0 to 4
+abbrev pub knownControl : ℕ
+knownControl = 0x1F
+
+abbrev pub knownSupport : ℕ
+knownSupport = 0x1F
+
+-- bits "already held", or "requested and permitted in this call"
+abbrev pub available : Bridge → ℕ → ℕ
+available b requested = bitOr (b .held) (bitAnd requested (b .permitted))
+
+-- "a requested control bit is granted when it is 0 to 4 and either already held, or permitted and, for bits 0, 2 and 3,
+-- bit 4 is already held or is requested and permitted in this call"; the support DWORD does not count
+abbrev pub grantedBit : Bridge → (support requested i : ℕ) → Bool
+grantedBit b support requested i =
+    bit requested i && bit knownControl i
+    && (bit (b .held) i || (bit (b .permitted) i && within (getD controlNeeds i 0) (available b requested)))
+
+-- the granted bits of the 32
+unfoldable pub granted : Bridge → (support requested : ℕ) → ℕ
+granted b support requested = number 32 (grantedBit b support requested)
+
+-- "status 0x10 if any requested bit is not granted, else 0"
+abbrev pub grantStatus : (requested granted : ℕ) → ℕ
+grantStatus r g = cond (within r g) 0 0x10
+
+-- the UUID as it stands in the buffer
+abbrev pub uuidBytes : List ℕ
+uuidBytes = 0x5B ∷ 0x4D ∷ 0xDB ∷ 0x33 ∷ 0xF7 ∷ 0x1F ∷ 0x1C ∷ 0x40 ∷ 0x96 ∷ 0x57 ∷ 0x74 ∷ 0x41 ∷ 0xC0 ∷ 0x3D ∷ 0xD7 ∷ 0x66 ∷ []
+
+-- none of the conditions of refusal 3
+unfoldable pub framed : ℕ → (uuid caps answer : List ℕ) → Bool
+framed count uuid caps answer =
+    eqb (length uuid) 16
+    && not (eqb count 0 || ltb 8 count)
+    && eqb (length caps) (4 * count)
+    && eqb (length answer) (4 * count)
+
+-- "has the right UUID, revision 1, Count 3"
+unfoldable pub recognised : (revision count : ℕ) (uuid : List ℕ) → Bool
+recognised revision count uuid = sameBytes uuid uuidBytes && eqb revision 1 && eqb count 3
+
+-- "UUID differs, status 0x04; revision not 1, status 0x08; Count not 3, status 0x02"
+abbrev pub errorStatus : (revision : ℕ) (uuid : List ℕ) → ℕ
+errorStatus revision uuid = cond (not (sameBytes uuid uuidBytes)) 0x04 (cond (not (eqb revision 1)) 0x08 0x02)
+
+-- the capability DWORDs: status with the query flag in bit 0, support, control
+abbrev pub status : List ℕ → ℕ
+status caps = dword caps 0
+
+abbrev pub query : List ℕ → Bool
+query caps = bit (status caps) 0
+
+abbrev pub support : List ℕ → ℕ
+support caps = dword caps 4
+
+abbrev pub control : List ℕ → ℕ
+control caps = dword caps 8
+
+-- the answer buffer: "in these three all later DWORDs are 0"; otherwise status, support as it came, granted bits
+unfoldable pub oscAnswer : Bridge → (revision count : ℕ) (uuid caps : List ℕ) → List ℕ
+oscAnswer b revision count uuid caps =
+    let g = granted b (support caps) (control caps) in
+    cond (recognised revision count uuid)
+    (le32 (grantStatus (control caps) g) ++ le32 (support caps) ++ le32 g)
+    (le32 (errorStatus revision uuid) ++ replicate (4 * count - 4) 0)
+
+-- "granted bits join the held ones and known support bits join the supported ones"
+abbrev pub joined : Bridge → List ℕ → Holding
+joined b caps = record {
+  held = bitOr (b .held) (granted b (support caps) (control caps));
+  supported = bitOr (b .supported) (bitAnd (support caps) knownSupport);
+}
+
+-- "A query changes nothing", nor does a call with another UUID, revision or Count
+unfoldable pub oscAfter : Bridge → (revision count : ℕ) (uuid caps : List ℕ) → Holding
+oscAfter b revision count uuid caps = cond (recognised revision count uuid && not (query caps)) (joined b caps) (holding b)

@@ -1,0 +1,130 @@
+-- Record blocks and register values.
+use Prim.Native.Nat.{ℕ, zero, suc, _+_, _*_, _%_}
+use mathlib.Core.Bool.{Bool, true, false, not, cond, _&&_, _||_}
+use mathlib.Core.List.{List, [], _∷_}
+use mathlib.Core.Option.{Option, none, some}
+use lib.Bits.{bitAnd, bitOr}
+use lib.Dec.{eqb, leb, ltb}
+use lib.ListN.{length, getD}
+use Rattle.rules.specs.Limits.{maxBlock}
+use Rattle.rules.specs.Lists.{every, pairwise, first, isNone}
+use Rattle.rules.specs.Numbers.{byte, word, dword}
+use Rattle.rules.specs.Refusals.{Refusal, _if_, firstOf}
+
+-- a field: where it starts, "tag (record type, 1 byte), length (2 bytes, little-endian)"
+pub record Field : Type 0 where
+  pub start : ℕ
+  pub tag : ℕ
+  pub size : ℕ
+
+abbrev pub fieldAt : List ℕ → ℕ → Field
+fieldAt l i = record { start = i; tag = byte l i; size = word l (1 + i) }
+
+abbrev pub prepend : Field → Option (List Field) → Option (List Field)
+prepend f none = none
+prepend f (some r) = some (f ∷ r)
+
+-- the fields from byte i "to its very end", at most n; none where "a length running past the end" or "one or two bytes left over" ends the walk
+abbrev pub fieldsFrom : ℕ → List ℕ → ℕ → Option (List Field)
+fieldsFrom zero l i = cond (eqb i (length l)) (some []) none
+fieldsFrom (suc n) l i =
+    let next : ℕ = 3 + fieldAt l i .size + i in
+    let rest : Option (List Field) = prepend (fieldAt l i) (fieldsFrom n l next) in
+    cond (eqb i (length l)) (some []) (cond (leb next (length l)) rest none)
+
+unfoldable pub fieldsOf : List ℕ → Option (List Field)
+fieldsOf l = fieldsFrom (length l) l 0
+
+-- number k of the field's value, "the first being the revision"
+abbrev pub value : List ℕ → Field → ℕ → ℕ
+value l f k = dword l (3 + 4 * k + f .start)
+
+-- a revision 1 record of type 0, 1 or 2
+abbrev pub isRecord : List ℕ → Field → Bool
+isRecord l f = leb (f .tag) 2 && eqb (value l f 0) 1
+
+-- "Revision 1 has length 20, 16 or 68 for types 0, 1, 2"
+abbrev pub recordSize : ℕ → ℕ
+recordSize zero = 20
+recordSize (suc zero) = 16
+recordSize (suc (suc n)) = 68
+
+-- the values of types 0, 1 and 2 (document 002, tables 6-7 to 6-9)
+abbrev pub valuesSound : List ℕ → Field → ℕ → Bool
+valuesSound l f zero = leb (value l f 1) 255 && leb (value l f 2) 255 && leb (value l f 3) 1 && leb (value l f 4) 1
+valuesSound l f (suc zero) = leb (value l f 1) 3 && leb (value l f 2) 7 && leb (value l f 3) 7
+valuesSound l f (suc (suc n)) =
+    leb (value l f 9) 65535 && leb (value l f 10) 65535  -- Device Control
+    && leb (value l f 11) 65535 && leb (value l f 12) 65535  -- Link Control
+
+abbrev pub fieldSound : List ℕ → Field → Bool
+fieldSound l f =
+    ltb 2 (f .tag)  -- tags above 2 are skipped whatever their value
+    || (leb 4 (f .size) && eqb (f .size % 4) 0  -- a length of at least 4, a multiple of 4
+    && (not (eqb (value l f 0) 1)  -- a revision other than 1 is skipped
+    || (eqb (f .size) (recordSize (f .tag)) && valuesSound l f (f .tag))))
+
+-- "at most once each"
+abbrev pub notTwice : List ℕ → Field → Field → Bool
+notTwice l f g = not (isRecord l f && isRecord l g && eqb (f .tag) (g .tag))
+
+abbrev pub soundFields : List ℕ → Option (List Field) → Bool
+soundFields l none = false
+soundFields l (some r) = every (fieldSound l) r && pairwise (notTwice l) r
+
+unfoldable pub blockSound : List ℕ → Bool
+blockSound l = leb (length l) maxBlock && soundFields l (fieldsOf l)
+
+-- "If the slot's is not empty it alone decides"
+abbrev pub deciding : (slot block : List ℕ) → List ℕ
+deciding [] block = block
+deciding (x ∷ slot) block = x ∷ slot
+
+-- the revision 1 record of the asked type, "a type above 2 is never found"
+abbrev pub recordAmong : List ℕ → ℕ → Option (List Field) → Option Field
+recordAmong l type none = none
+recordAmong l type (some r) = first (λ f. isRecord l f && eqb (f .tag) type) r
+
+unfoldable pub recordIn : List ℕ → ℕ → Option Field
+recordIn l type = recordAmong l type (fieldsOf l)
+
+-- ---- the record search: its number, and the part of the deciding block handed back, header included
+
+pub record Found : Type 0 where
+  pub number : ℕ
+  pub start : ℕ
+  pub size : ℕ
+
+-- record search checks 8, 9
+abbrev pub recordRefusals : (slot block : List ℕ) (type : ℕ) → List Refusal
+recordRefusals slot block type =
+    (8 if not (blockSound (deciding slot block)))
+    ∷ (9 if isNone (recordIn (deciding slot block) type))
+    ∷ []
+
+abbrev pub foundBy : ℕ → Option Field → Found
+foundBy zero none = record { number = 0; start = 0; size = 0 }
+foundBy zero (some f) = record { number = 0; start = f .start; size = 3 + f .size }
+foundBy (suc k) o = record { number = suc k; start = 0; size = 0 }
+
+abbrev pub findRecord : (slot block : List ℕ) (type : ℕ) → Found
+findRecord slot block type = foundBy (firstOf (recordRefusals slot block type)) (recordIn (deciding slot block) type)
+
+-- ---- register values
+
+-- refusal 10; Device Control is register 4 of table 6-9's order, Link Control 5
+abbrev pub registersBad : List ℕ → Bool
+registersBad current = not (eqb (length current) 8) || ltb 65535 (getD current 4 0) || ltb 65535 (getD current 5 0)
+
+-- "New = (current AND mask) OR mask, bit by bit"
+abbrev pub andOr : (current and or : ℕ) → ℕ
+andOr current and or = bitOr (bitAnd current and) or
+
+-- register k; the six error registers too, "unless AER (bit 3) is held, when they stay"
+abbrev pub newValue : (aerHeld : Bool) → List ℕ → Field → (k current : ℕ) → ℕ
+newValue aerHeld l f k current =
+    cond (aerHeld && not (eqb k 4 || eqb k 5)) current (andOr current (value l f (1 + 2 * k)) (value l f (2 + 2 * k)))
+
+abbrev pub newValues : (aerHeld : Bool) → List ℕ → Field → ℕ → List ℕ → List ℕ
+newValues aerHeld l f k [] = []
+newValues aerHeld l f k (c ∷ current) = newValue aerHeld l f k c ∷ newValues aerHeld l f (suc k) current

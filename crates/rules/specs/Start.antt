@@ -1,0 +1,99 @@
+-- The starting list, and the table that start hands back, refused or not.
+use Prim.Native.Nat.{ℕ, zero, suc, _^_, _≤_, _<_}
+use mathlib.Core.Path.{_≡_}
+use mathlib.Core.Bool.{Bool, true, not, _&&_, _||_}
+use mathlib.Core.List.{List, [], _∷_, map}
+use mathlib.Core.Option.{Option, none, some}
+use lib.Dec.{eqb, leb, ltb}
+use lib.ListN.{length}
+use Rattle.rules.specs.Limits.{maxRows, maxOwner}
+use Rattle.rules.specs.Lists.{every, pairwise, padded, first, isNone}
+use Rattle.rules.specs.Numbers.{within}
+use Rattle.rules.specs.Refusals.{Refusal, _if_, firstOf}
+use Rattle.rules.specs.Mcfg.{Entry, entries, mcfgSound, busesApart, busEnd}
+use Rattle.rules.specs.Tables.{noBridge, bridgeAt}
+use Rattle.rules.specs.Place.{inWindow}
+use Rattle.rules.specs.Osc.{knownControl}
+use Rattle.rules.specs.declared.Bridge.{Bridge}
+use Rattle.rules.specs.declared.BridgeKind.{BridgeKind}
+use Rattle.rules.specs.declared.BridgeKind.the-variants.{Express, Conventional}
+use Rattle.rules.specs.declared.BridgeRow.{BridgeRow}
+use Rattle.rules.specs.declared.Table.{Table}
+
+-- all that is lent to start
+pub record StartInput : Type 0 where
+  pub mcfg : List ℕ
+  pub rows : List BridgeRow
+
+-- the row's buses lie inside the entry, which is of its segment
+abbrev pub inside : BridgeRow → Entry → Bool
+inside r e = eqb (r .segment) (e .segment) && leb (e .startBus) (r .«first_bus») && leb (r .«last_bus») (e .endBus)
+
+abbrev pub entryOf : List Entry → BridgeRow → Option Entry
+entryOf es r = first (inside r) es
+
+abbrev pub baseOf : Option Entry → ℕ
+baseOf none = 0
+baseOf (some e) = e .base
+
+-- the control bits that a row of this kind may permit
+abbrev pub permissible : BridgeKind → ℕ
+permissible Express = knownControl
+permissible Conventional = 0x02
+
+abbrev pub rowSound : List Entry → BridgeRow → Bool
+rowSound es r =
+    leb (r .owner .0) maxOwner  -- owner not above 15
+    && leb (r .«first_bus») (r .«last_bus»)  -- first not above last
+    && not (isNone (entryOf es r))  -- the row's buses lie inside one MCFG entry of its segment
+    && within (r .permitted) knownControl  -- no permitted bit above 4
+    && within (r .permitted) (permissible (r .kind))  -- a conventional row permits no bit but 1
+
+abbrev pub rowsApart : BridgeRow → BridgeRow → Bool
+rowsApart r q = not (eqb (r .segment) (q .segment)) || busesApart (r .«first_bus») (r .«last_bus») (q .«first_bus») (q .«last_bus»)
+
+unfoldable pub rowsSound : List Entry → List BridgeRow → Bool
+rowsSound es rows =
+    leb (length rows) maxRows  -- 0 to 16 rows
+    && every (rowSound es) rows
+    && pairwise rowsApart rows  -- two rows of one segment share no bus
+
+-- start checks 6, 7
+abbrev pub startRefusals : StartInput → List Refusal
+startRefusals x = (6 if not (mcfgSound (x .mcfg))) ∷ (7 if not (rowsSound (entries (x .mcfg)) (x .rows))) ∷ []
+
+unfoldable pub startNumber : StartInput → ℕ
+startNumber x = firstOf (startRefusals x)
+
+-- "whose base the row takes"; "held and supported bits start at 0"
+abbrev pub bridgeOf : List Entry → BridgeRow → Bridge
+bridgeOf es r = record {
+  base = baseOf (entryOf es r);
+  permitted = r .permitted;
+  held = 0;
+  supported = 0;
+  segment = r .segment;
+  owner = r .owner;
+  «first_bus» = r .«first_bus»;
+  «last_bus» = r .«last_bus»;
+}
+
+-- "Bridges are numbered from 0 in list order"
+abbrev pub tableOf : List Bridge → Table
+tableOf l = record { bridges = padded noBridge maxRows l; count = length l }
+
+-- "a refused start gives a table with no bridges"
+abbrev pub startBy : ℕ → StartInput → Table
+startBy zero x = tableOf (map (bridgeOf (entries (x .mcfg))) (x .rows))
+startBy (suc k) x = tableOf []
+
+unfoldable pub startTable : StartInput → Table
+startTable x = startBy (startNumber x) x
+
+-- what start and every call leave: all that a call may require of its table
+pub record Sound (t : Table) : Type 0 where
+  pub full-length : length (t .bridges) ≡ maxRows
+  pub few : t .count ≤ maxRows
+  pub windows-apart : (i j : ℕ) → i < t .count → j < t .count → (i ≡ j → ⊥)
+      → (a : ℕ) → inWindow a (bridgeAt t i) ≡ true → inWindow a (bridgeAt t j) ≡ true → ⊥
+  pub window-ends : (i : ℕ) → i < t .count → busEnd (bridgeAt t i .base) (bridgeAt t i .«last_bus») ≤ 2 ^ 64

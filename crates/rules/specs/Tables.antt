@@ -1,0 +1,63 @@
+-- The table of host bridges: its rows, their owners, and what a bridge holds.
+use Prim.Native.Nat.{ℕ}
+use mathlib.Core.Bool.{Bool}
+use mathlib.Core.List.{List, map}
+use lib.Dec.{eqb}
+use lib.ListN.{getD, set, take}
+use Rattle.rules.specs.declared.Bridge.{Bridge}
+use Rattle.rules.specs.declared.SessionNumber.{SessionNumber}
+use Rattle.rules.specs.declared.Table.{Table}
+
+-- "What a bridge holds is its held and its supported bits in the table"
+pub record Holding : Type 0 where
+  pub held : ℕ
+  pub supported : ℕ
+
+abbrev pub nothingHeld : Holding
+nothingHeld = record { held = 0; supported = 0 }
+
+abbrev pub holding : Bridge → Holding
+holding b = record { held = b .held; supported = b .supported }
+
+-- the row with another holding; all else is set at start
+abbrev pub withHolding : Bridge → Holding → Bridge
+withHolding b h = record {
+  base = b .base;
+  permitted = b .permitted;
+  held = h .held;
+  supported = h .supported;
+  segment = b .segment;
+  owner = b .owner;
+  «first_bus» = b .«first_bus»;
+  «last_bus» = b .«last_bus»;
+}
+
+-- the row with nothing held
+abbrev pub cleared : Bridge → Bridge
+cleared b = withHolding b nothingHeld
+
+-- "A session's bridges are those whose row names it as owner"
+abbrev pub owns : SessionNumber → Bridge → Bool
+owns s b = eqb (b .owner .0) (s .0)
+
+-- what stands in a place of the table that no bridge has
+abbrev pub noBridge : Bridge
+noBridge = record { base = 0; permitted = 0; held = 0; supported = 0; segment = 0; owner = record { 0 = 0 }; «first_bus» = 0; «last_bus» = 0 }
+
+abbrev pub bridgeAt : Table → ℕ → Bridge
+bridgeAt t i = getD (t .bridges) i noBridge
+
+-- the bridges that the table has, in list order
+abbrev pub bridgesOf : Table → List Bridge
+bridgesOf t = take (t .count) (t .bridges)
+
+abbrev pub withBridges : Table → List Bridge → Table
+withBridges t l = record { bridges = l; count = t .count }
+
+-- the table with row i stored back
+abbrev pub withBridge : Table → ℕ → Bridge → Table
+withBridge t i b = withBridges t (set (t .bridges) i b)
+
+-- the table with nothing held: what no call changes
+abbrev pub fixed : Table → Table
+fixed t = withBridges t (map cleared (t .bridges))
