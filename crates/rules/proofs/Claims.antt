@@ -8,11 +8,11 @@ use mathlib.Core.Option.{Option, none, some}
 use Prim.Native.Nat.{ℕ, zero, suc}
 use Rattle.rules.specs.Refusals.{Refusal, firstOf, GivenBy}
 use Rattle.rules.specs.Tables.{Holding, nothingHeld, holding, withHolding, bridgeAt, withBridge, fixed}
-use Rattle.rules.specs.Place.{Place}
+use Rattle.rules.specs.Place.{Place, noPlace}
 use Rattle.rules.specs.Start.{StartInput, startRefusals, startNumber, startBy, startTable, tableOf}
 use Rattle.rules.specs.Osc.{recognised, query, oscAfter}
 use Rattle.rules.specs.Records.{Field, Found, recordRefusals, foundBy, findRecord, deciding, recordIn}
-use Rattle.rules.specs.Calls.{Operation, osc, Call, on, locate, numberAt, outcomeBy, bridgeBy, locateBy, locateRefusals, placeBy, windowOf, step, listed, lent, zeros, zerosOf, lentTo, tableAfter}
+use Rattle.rules.specs.Calls.{Operation, osc, Call, on, locate, numberAt, outcomeBy, bridgeBy, locateBy, locateRefusals, placeBy, windowOf, located, step, listed, zeros, lent, zerosOf, lentTo, tableAfter}
 use Rattle.rules.specs.History.{historyFrom}
 use Rattle.rules.specs.Claims.{RefusalsExactly, RefusedChangesNothing, TablesSound, History, QueriesChangeNothing, HeldUntilReset, ThereAndBack, BackAndThere, OneAddress, Separation, Negotiation}
 use Rattle.rules.specs.declared.Bridge.{Bridge}
@@ -66,11 +66,11 @@ call-refused t (on s n o) = go (numberAt (t .count) s n (bridgeAt t (n .0)) o)
   where
     go : (k : ℕ) → (outcomeBy k (bridgeAt t (n .0)) o .number ≡ 0 → ⊥)
         → (withBridge t (n .0) (bridgeBy k (bridgeAt t (n .0)) o) ≡ t) × (outcomeBy k (bridgeAt t (n .0)) o .result ≡ zeros o) × (outcomeBy k (bridgeAt t (n .0)) o .left ≡ lent o)
-    go zero r = absurd (r refl)
+    go zero r = absurd (r (number-by 0 (bridgeAt t (n .0)) o))
     go (suc k) r = (refused-table t (n .0) k o, refl, refl)
 call-refused t (locate s a) = go (firstOf (locateRefusals (fixed t) s a)) (placeBy (fixed t) a (windowOf (fixed t) s a))
   where
-    go : (k : ℕ) (p : Place) → (locateBy k p .number ≡ 0 → ⊥) → (t ≡ t) × (locateBy k p .result ≡ zerosOf (locate s a)) × (locateBy k p .left ≡ [])
+    go : (k : ℕ) (p : Place) → (locateBy k p .number ≡ 0 → ⊥) → (t ≡ t) × (locateBy k p .result ≡ located noPlace) × (locateBy k p .left ≡ [])
     go zero p r = absurd (r refl)
     go (suc k) p r = (refl, refl, refl)
 

@@ -67,9 +67,9 @@ cond-cond true false o f q x y = refl
 cond-cond false a o f q x y = refl
 
 -- an operation that leaves what the bridge holds
-still : (u : Table) (k n i : ℕ) (o : Operation) → i < length (u .bridges) → after (bridgeAt u i) o ≡ holding (bridgeAt u i)
+holding-kept : (u : Table) (k n i : ℕ) (o : Operation) → i < length (u .bridges) → after (bridgeAt u i) o ≡ holding (bridgeAt u i)
     → holding (bridgeAt (withBridge u n (bridgeBy k (bridgeAt u n) o)) i) ≡ holding (bridgeAt u i)
-still u k n i o h e = holding-by k u n i o h ∙ rw e (cond-same (eqb n i && eqb k 0) (holding (bridgeAt u i)))
+holding-kept u k n i o h e = holding-by k u n i o h ∙ rw e (cond-same (eqb n i && eqb k 0) (holding (bridgeAt u i)))
 
 pub history-next : (u : Table) (i : ℕ) (c : Call) → i < length (u .bridges) → holding (bridgeAt (step u c .table) i) ≡ historyStep u i (holding (bridgeAt u i)) c
 unfolding step oscAfter
@@ -83,13 +83,13 @@ history-next u i (on s n (osc revision count uuid caps answer)) h =
 history-next u i (on s n reset) h =
     holding-by (numberAt (u .count) s n (bridgeAt u (n .0)) reset) u (n .0) i reset h
     ∙ rw (none-of-1-2 (leb (u .count) (n .0)) (owns s (bridgeAt u (n .0))))
-history-next u i (on s n report) h = still u (numberAt (u .count) s n (bridgeAt u (n .0)) report) (n .0) i report h refl
+history-next u i (on s n report) h = holding-kept u (numberAt (u .count) s n (bridgeAt u (n .0)) report) (n .0) i report h refl
 history-next u i (on s n (address bus device function offset width)) h =
     let o = address bus device function offset width in
-    still u (numberAt (u .count) s n (bridgeAt u (n .0)) o) (n .0) i o h refl
+    holding-kept u (numberAt (u .count) s n (bridgeAt u (n .0)) o) (n .0) i o h refl
 history-next u i (on s n (registerValues slot block current)) h =
     let o = registerValues slot block current in
-    still u (numberAt (u .count) s n (bridgeAt u (n .0)) o) (n .0) i o h refl
+    holding-kept u (numberAt (u .count) s n (bridgeAt u (n .0)) o) (n .0) i o h refl
 history-next u i (locate s a) h = refl
 
 -- the history reads of the table only what no call changes

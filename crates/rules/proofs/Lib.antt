@@ -1,4 +1,5 @@
 pub mod BenchSheet
+pub mod BenchRuns
 pub mod Tests
 pub mod Refusals
 pub mod Bits
@@ -15,3 +16,4 @@ pub mod Starting
 pub mod History
 pub mod Negotiation
 pub mod Claims
+pub mod Records

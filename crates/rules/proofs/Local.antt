@@ -19,35 +19,35 @@ use Rattle.rules.proofs.Indexed.{mapIdx, mapIdx-getD, mapIdx-set, mapId
 
 -- ---- the table as seen by one who sees only the bridges of p
 
-abbrev veil : (ℕ → Bool) → ℕ → Bridge → Bridge
-veil p i b = cond (p i) b (cleared b)
+abbrev viewBridge : (ℕ → Bool) → ℕ → Bridge → Bridge
+viewBridge p i b = cond (p i) b (cleared b)
 
 -- the table with nothing held by the bridges that are not seen
-abbrev pub seen : (ℕ → Bool) → Table → Table
-seen p t = withBridges t (mapIdx (veil p) (t .bridges))
+abbrev pub view : (ℕ → Bool) → Table → Table
+view p t = withBridges t (mapIdx (viewBridge p) (t .bridges))
 
-veil-cleared : (q : Bool) (b : Bridge) → cleared (cond q b (cleared b)) ≡ cleared b
-veil-cleared true b = refl
-veil-cleared false b = refl
+view-cleared : (q : Bool) (b : Bridge) → cleared (cond q b (cleared b)) ≡ cleared b
+view-cleared true b = refl
+view-cleared false b = refl
 
-veil-none : (p : ℕ → Bool) (i : ℕ) → veil p i noBridge ≡ noBridge
-veil-none p i = go (p i)
+view-noBridge : (p : ℕ → Bool) (i : ℕ) → viewBridge p i noBridge ≡ noBridge
+view-noBridge p i = go (p i)
   where
     go : (q : Bool) → cond q noBridge (cleared noBridge) ≡ noBridge
     go true = refl
     go false = refl
 
-bridge-seen : (p : ℕ → Bool) (t : Table) (n : ℕ) → bridgeAt (seen p t) n ≡ veil p n (bridgeAt t n)
-bridge-seen p t n = mapIdx-getD (veil p) (t .bridges) n noBridge (veil-none p)
+bridge-view : (p : ℕ → Bool) (t : Table) (n : ℕ) → bridgeAt (view p t) n ≡ viewBridge p n (bridgeAt t n)
+bridge-view p t n = mapIdx-getD (viewBridge p) (t .bridges) n noBridge (view-noBridge p)
 
-pub bridge-shown : (p : ℕ → Bool) (t : Table) (n : ℕ) → p n ≡ true → bridgeAt (seen p t) n ≡ bridgeAt t n
-bridge-shown p t n e = bridge-seen p t n ∙ rw e
+pub bridge-shown : (p : ℕ → Bool) (t : Table) (n : ℕ) → p n ≡ true → bridgeAt (view p t) n ≡ bridgeAt t n
+bridge-shown p t n e = bridge-view p t n ∙ rw e
 
-pub cleared-seen : (p : ℕ → Bool) (t : Table) (n : ℕ) → cleared (bridgeAt (seen p t) n) ≡ cleared (bridgeAt t n)
-cleared-seen p t n = ap cleared (bridge-seen p t n) ∙ veil-cleared (p n) (bridgeAt t n)
+pub cleared-view : (p : ℕ → Bool) (t : Table) (n : ℕ) → cleared (bridgeAt (view p t) n) ≡ cleared (bridgeAt t n)
+cleared-view p t n = ap cleared (bridge-view p t n) ∙ view-cleared (p n) (bridgeAt t n)
 
-fixed-seen : (p : ℕ → Bool) (t : Table) → fixed (seen p t) ≡ fixed t
-fixed-seen p t = ap (withBridges t) (map-mapIdx cleared (veil p) (λ i b. veil-cleared (p i) b) (t .bridges))
+fixed-view : (p : ℕ → Bool) (t : Table) → fixed (view p t) ≡ fixed t
+fixed-view p t = ap (withBridges t) (map-mapIdx cleared (viewBridge p) (λ i b. view-cleared (p i) b) (t .bridges))
 
 pub bridge-fixed : (t : Table) (i : ℕ) → bridgeAt (fixed t) i ≡ cleared (bridgeAt t i)
 bridge-fixed t i = List·getD-map cleared (t .bridges) i noBridge
@@ -62,9 +62,9 @@ abbrev pub onBridge : Table → Call → Option ℕ
 onBridge t (on s n o) = cond (leb (t .count) (n .0)) none (some (n .0))
 onBridge t (locate s a) = none
 
-pub on-seen : (p : ℕ → Bool) (t : Table) (c : Call) → onBridge (seen p t) c ≡ onBridge t c
-on-seen p t (on s n o) = refl
-on-seen p t (locate s a) = refl
+pub on-view : (p : ℕ → Bool) (t : Table) (c : Call) → onBridge (view p t) c ≡ onBridge t c
+on-view p t (on s n o) = refl
+on-view p t (locate s a) = refl
 
 absent-is : (q : Bool) (n : ℕ) → cond {A = Option ℕ} q none (some n) ≡ none → q ≡ true
 absent-is true n e = refl
@@ -112,9 +112,9 @@ refused-by : (q : Bool) (t : Table) (n : ℕ) (o : Operation) → withBridge t n
 refused-by true t n o = same-bridge t n
 refused-by false t n o = same-bridge t n
 
-alike : (q : Bool) (b c : Bridge) (o : Operation) → outcomeBy (cond q 1 2) b o ≡ outcomeBy (cond q 1 2) c o
-alike true b c o = refl
-alike false b c o = refl
+refused-alike : (q : Bool) (b c : Bridge) (o : Operation) → outcomeBy (cond q 1 2) b o ≡ outcomeBy (cond q 1 2) c o
+refused-alike true b c o = refl
+refused-alike false b c o = refl
 
 -- ---- a call on no bridge
 
@@ -125,44 +125,44 @@ none-table t (on s n o) e =
     ∙ same-bridge t (n .0)
 none-table t (locate s a) e = refl
 
-pub none-outcome : (p : ℕ → Bool) (t : Table) (c : Call) → onBridge t c ≡ none → step (seen p t) c .outcome ≡ step t c .outcome
+pub none-outcome : (p : ℕ → Bool) (t : Table) (c : Call) → onBridge t c ≡ none → step (view p t) c .outcome ≡ step t c .outcome
 unfolding step
 none-outcome p t (on s n o) e =
     let q = absent-is (leb (t .count) (n .0)) (n .0) e in
-    ap (λ (k : ℕ). outcomeBy k (bridgeAt (seen p t) (n .0)) o) (absent-first (t .count) s n (bridgeAt (seen p t) (n .0)) o q)
+    ap (λ (k : ℕ). outcomeBy k (bridgeAt (view p t) (n .0)) o) (absent-first (t .count) s n (bridgeAt (view p t) (n .0)) o q)
     ∙ ap (λ (k : ℕ). outcomeBy k (bridgeAt t (n .0)) o) (sym (absent-first (t .count) s n (bridgeAt t (n .0)) o q))
-none-outcome p t (locate s a) e = ap (λ (x : Table). locateIn x s a) (fixed-seen p t)
+none-outcome p t (locate s a) e = ap (λ (x : Table). locateIn x s a) (fixed-view p t)
 
 -- ---- a call on bridge n, which is seen
 
 module _ (p : ℕ → Bool) (t : Table) (n : ℕ) where
-  pub shown-outcome : (c : Call) → onBridge t c ≡ some n → p n ≡ true → step (seen p t) c .outcome ≡ step t c .outcome
+  pub shown-outcome : (c : Call) → onBridge t c ≡ some n → p n ≡ true → step (view p t) c .outcome ≡ step t c .outcome
   unfolding step
   shown-outcome (on s m o) e h =
       let q = present-is (leb (t .count) (m .0)) (m .0) n e in
       ap (λ (b : Bridge). outcomeBy (numberAt (t .count) s m b o) b o) (bridge-shown p t (m .0) (ap p q ∙ h))
   shown-outcome (locate s a) e h = absurd (Option·none-ne-some n e)
 
-  put-shown : (m : ℕ) (b : Bridge) → p m ≡ true → seen p (withBridge t m b) ≡ withBridge (seen p t) m b
-  put-shown m b h = ap (withBridges t) (mapIdx-set (veil p) (t .bridges) m b ∙ ap (set (mapIdx (veil p) (t .bridges)) m) (rw h))
+  put-shown : (m : ℕ) (b : Bridge) → p m ≡ true → view p (withBridge t m b) ≡ withBridge (view p t) m b
+  put-shown m b h = ap (withBridges t) (mapIdx-set (viewBridge p) (t .bridges) m b ∙ ap (set (mapIdx (viewBridge p) (t .bridges)) m) (rw h))
 
-  pub shown-table : (c : Call) → onBridge t c ≡ some n → p n ≡ true → seen p (step t c .table) ≡ step (seen p t) c .table
+  pub shown-table : (c : Call) → onBridge t c ≡ some n → p n ≡ true → view p (step t c .table) ≡ step (view p t) c .table
   unfolding step
   shown-table (on s m o) e h =
       let q = ap p (present-is (leb (t .count) (m .0)) (m .0) n e) ∙ h in
       put-shown (m .0) (bridgeBy (numberAt (t .count) s m (bridgeAt t (m .0)) o) (bridgeAt t (m .0)) o) q
-      ∙ ap (λ (b : Bridge). withBridge (seen p t) (m .0) (bridgeBy (numberAt (t .count) s m b o) b o)) (sym (bridge-shown p t (m .0) q))
+      ∙ ap (λ (b : Bridge). withBridge (view p t) (m .0) (bridgeBy (numberAt (t .count) s m b o) b o)) (sym (bridge-shown p t (m .0) q))
   shown-table (locate s a) e h = refl
 
   -- ---- which is not seen
 
-  pub hidden-table : (c : Call) → onBridge t c ≡ some n → p n ≡ false → seen p (step t c .table) ≡ seen p t
+  pub hidden-table : (c : Call) → onBridge t c ≡ some n → p n ≡ false → view p (step t c .table) ≡ view p t
   unfolding step
   hidden-table (on s m o) e h =
       let q : p (m .0) ≡ false = ap p (present-is (leb (t .count) (m .0)) (m .0) n e) ∙ h in
       let b = bridgeAt t (m .0) in
       let k = numberAt (t .count) s m b o in
-      ap (withBridges t) (mapIdx-set-same (veil p) (t .bridges) (m .0) (bridgeBy k b o) noBridge
+      ap (withBridges t) (mapIdx-set-same (viewBridge p) (t .bridges) (m .0) (bridgeBy k b o) noBridge
       (rw q (cleared-by k b o)))
   hidden-table (locate s a) e h = refl
 
@@ -180,14 +180,14 @@ other-table t n (on s m o) e h =
 other-table t n (locate s a) e h = refl
 
 pub other-outcome : (p : ℕ → Bool) (t : Table) (n : ℕ) (c : Call) → onBridge t c ≡ some n → owns (sessionOf c) (bridgeAt t n) ≡ false
-    → step (seen p t) c .outcome ≡ step t c .outcome
+    → step (view p t) c .outcome ≡ step t c .outcome
 unfolding step
 other-outcome p t n (on s m o) e h =
     let f = not-owner s t (m .0) n (present-is (leb (t .count) (m .0)) (m .0) n e) h in
     let b = bridgeAt t (m .0) in
-    let v = bridgeAt (seen p t) (m .0) in
-    ap (λ (k : ℕ). outcomeBy k v o) (owner-first (t .count) s m v o (ap (owns s) (cleared-seen p t (m .0)) ∙ f))
-    ∙ alike (leb (t .count) (m .0)) v b o
+    let v = bridgeAt (view p t) (m .0) in
+    ap (λ (k : ℕ). outcomeBy k v o) (owner-first (t .count) s m v o (ap (owns s) (cleared-view p t (m .0)) ∙ f))
+    ∙ refused-alike (leb (t .count) (m .0)) v b o
     ∙ ap (λ (k : ℕ). outcomeBy k b o) (sym (owner-first (t .count) s m b o f))
 other-outcome p t n (locate s a) e h = absurd (Option·none-ne-some n e)
 

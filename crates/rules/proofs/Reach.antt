@@ -25,7 +25,11 @@ use Rattle.rules.proofs.Local.{fixed-step, same-rows}
 use Rattle.rules.proofs.Separation.{same-session}
 
 pub number-by : (k : ℕ) (b : Bridge) (o : Operation) → outcomeBy k b o .number ≡ k
-number-by zero b o = refl
+number-by zero b (osc revision count uuid caps answer) = refl
+number-by zero b reset = refl
+number-by zero b report = refl
+number-by zero b (address bus device function offset width) = refl
+number-by zero b (registerValues slot block current) = refl
 number-by (suc k) b o = refl
 
 -- ---- a place that refusal 5 does not meet

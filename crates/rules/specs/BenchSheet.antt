@@ -26,16 +26,7 @@ pub record Answered : Type 0 where
 
 -- a bridge of session 1 with base 0xE0000000 and buses 1 to 2
 abbrev pub bridgeWith : (permitted held : ℕ) → Bridge
-bridgeWith p h = record {
-  base = 0xE0000000;
-  permitted = p;
-  held = h;
-  supported = 0;
-  segment = 0;
-  owner = record { 0 = 1 };
-  «first_bus» = 1;
-  «last_bus» = 2;
-}
+bridgeWith p h = record { base = 0xE0000000; permitted = p; held = h; supported = 0; segment = 0; owner = record { 0 = 1 }; «first_bus» = 1; «last_bus» = 2 }
 
 -- the owner's operation on it, as bridge 0 of one
 abbrev pub numberOn : Bridge → Operation → ℕ

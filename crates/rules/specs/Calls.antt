@@ -44,6 +44,9 @@ pub record Outcome : Type 0 where
   pub result : Result
   pub left : List (List ℕ)
 
+abbrev pub outcome : ℕ → Result → List (List ℕ) → Outcome
+outcome k r l = record { number = k; result = r; left = l }
+
 -- ---- an operation on bridge n of a table with `count` bridges, by session s; b is the bridge's row
 
 -- the numbers that a call checks, in its order
@@ -67,31 +70,17 @@ abbrev pub valuesBy : Bridge → List ℕ → List ℕ → Option Field → List
 valuesBy b l current none = replicate 8 0
 valuesBy b l current (some f) = newValues (bit (b .held) 3) l f 0 current
 
--- what an accepted call hands back
-abbrev pub result : Bridge → Operation → Result
-result b (osc revision count uuid caps answer) = nothing
-result b reset = nothing
-result b report = reported (holding b)
-result b (address bus device function offset width) = addressed (addressOf b bus device function offset)
-result b (registerValues slot block current) = values (valuesBy b (deciding slot block) current (recordIn (deciding slot block) 2))
+-- what an accepted call hands back and leaves
+abbrev pub accepted : Bridge → Operation → Outcome
+accepted b (osc revision count uuid caps answer) = outcome 0 nothing (uuid ∷ caps ∷ oscAnswer b revision count uuid caps ∷ [])
+accepted b reset = outcome 0 nothing []
+accepted b report = outcome 0 (reported (holding b)) []
+accepted b (address bus device function offset width) = outcome 0 (addressed (addressOf b bus device function offset)) []
+accepted b (registerValues slot block current) =
+    let l = deciding slot block in
+    outcome 0 (values (valuesBy b l current (recordIn l 2))) (slot ∷ block ∷ current ∷ [])
 
--- the bytes it leaves
-abbrev pub left : Bridge → Operation → List (List ℕ)
-left b (osc revision count uuid caps answer) = uuid ∷ caps ∷ oscAnswer b revision count uuid caps ∷ []
-left b reset = []
-left b report = []
-left b (address bus device function offset width) = []
-left b (registerValues slot block current) = slot ∷ block ∷ current ∷ []
-
--- what the bridge then holds
-abbrev pub after : Bridge → Operation → Holding
-after b (osc revision count uuid caps answer) = oscAfter b revision count uuid caps
-after b reset = nothingHeld
-after b report = holding b
-after b (address bus device function offset width) = holding b
-after b (registerValues slot block current) = holding b
-
--- "A refused call hands back zeros"
+-- "A refused call hands back zeros": the result of its kind
 abbrev pub zeros : Operation → Result
 zeros (osc revision count uuid caps answer) = nothing
 zeros reset = nothing
@@ -107,13 +96,21 @@ lent report = []
 lent (address bus device function offset width) = []
 lent (registerValues slot block current) = slot ∷ block ∷ current ∷ []
 
+-- what the bridge holds after an accepted call
+abbrev pub after : Bridge → Operation → Holding
+after b (osc revision count uuid caps answer) = oscAfter b revision count uuid caps
+after b reset = nothingHeld
+after b report = holding b
+after b (address bus device function offset width) = holding b
+after b (registerValues slot block current) = holding b
+
 abbrev pub numberAt : (count : ℕ) → SessionNumber → BridgeNumber → Bridge → Operation → ℕ
 numberAt count s n b o = firstOf (refusals count s n b o)
 
 -- by the number: 0 does the operation, any other changes nothing
 abbrev pub outcomeBy : ℕ → Bridge → Operation → Outcome
-outcomeBy zero b o = record { number = 0; result = result b o; left = left b o }
-outcomeBy (suc k) b o = record { number = suc k; result = zeros o; left = lent o }
+outcomeBy zero b o = accepted b o
+outcomeBy (suc k) b o = outcome (suc k) (zeros o) (lent o)
 
 abbrev pub bridgeBy : ℕ → Bridge → Operation → Bridge
 bridgeBy zero b o = withHolding b (after b o)
@@ -132,8 +129,8 @@ placeBy t a none = noPlace
 placeBy t a (some i) = placeOf i (bridgeAt t i) a
 
 abbrev pub locateBy : ℕ → Place → Outcome
-locateBy zero p = record { number = 0; result = located p; left = [] }
-locateBy (suc k) p = record { number = suc k; result = located noPlace; left = [] }
+locateBy zero p = outcome 0 (located p) []
+locateBy (suc k) p = outcome (suc k) (located noPlace) []
 
 abbrev pub locateIn : Table → SessionNumber → ℕ → Outcome
 locateIn t s a = locateBy (firstOf (locateRefusals t s a)) (placeBy t a (windowOf t s a))

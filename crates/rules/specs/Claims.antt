@@ -4,18 +4,18 @@ use mathlib.Core.Logic.{_↔_, _⊎_}
 use mathlib.Core.Bool.{Bool, true, false}
 use mathlib.Core.List.{List, [], _∷_}
 use mathlib.Core.Option.{some}
-use Prim.Native.Nat.{ℕ, _<_}
+use Prim.Native.Nat.{ℕ, _+_, _≤_, _<_}
 use lib.Bits.{bitOr}
 use lib.ListN.{length, getD}
 use Rattle.rules.specs.Lists.{every, pairwise}
-use Rattle.rules.specs.Numbers.{bit}
+use Rattle.rules.specs.Numbers.{byte, word, dword, bit}
 use Rattle.rules.specs.Refusals.{GivenBy}
 use Rattle.rules.specs.Tables.{holding, cleared, owns, bridgeAt}
 use Rattle.rules.specs.Place.{Place, InReach}
 use Rattle.rules.specs.Start.{StartInput, startRefusals, startNumber, startTable, tableOf, Sound}
 use Rattle.rules.specs.Osc.{grantedBit, granted, uuidBytes, status, query, control}
-use Rattle.rules.specs.Records.{recordRefusals, findRecord}
-use Rattle.rules.specs.Calls.{osc, reset, address, Call, on, locate, Result, addressed, located, Outcome, step, listed, zerosOf, lentTo, tableAfter, sessionOf, callsOf, outcomesOf, widthOf}
+use Rattle.rules.specs.Records.{deciding, Found, recordRefusals, findRecord}
+use Rattle.rules.specs.Calls.{osc, reset, address, Call, on, locate, Result, addressed, located, Outcome, outcome, step, listed, zerosOf, lentTo, tableAfter, sessionOf, callsOf, outcomesOf, widthOf}
 use Rattle.rules.specs.History.{history, reaches, takesOrResets}
 use Rattle.rules.specs.declared.Bridge.{Bridge}
 use Rattle.rules.specs.declared.BridgeNumber.{BridgeNumber}
@@ -47,6 +47,14 @@ RefusedChangesNothing =
     → (step t c .table ≡ t) × (step t c .outcome .result ≡ zerosOf c) × (step t c .outcome .left ≡ lentTo c))
     × ((x : StartInput) → (startNumber x ≡ 0 → ⊥) → startTable x ≡ tableOf [])
     × ((slot block : List ℕ) (type : ℕ) → (findRecord slot block type .number ≡ 0 → ⊥) → findRecord slot block type .size ≡ 0)
+
+-- "The record handed back is a part of whichever block decided, header included"
+abbrev pub RecordPart : Type 0
+RecordPart = (slot block : List ℕ) (type : ℕ)
+    → let l : List ℕ = deciding slot block in
+    let f : Found = findRecord slot block type in
+    f .number ≡ 0
+    → (f .start + f .size ≤ length l) × (byte l (f .start) ≡ type) × (f .size ≡ 3 + word l (1 + f .start)) × (dword l (3 + f .start) ≡ 1)
 
 -- ---- what start leaves and every call keeps
 
@@ -80,9 +88,9 @@ HeldUntilReset = (x : StartInput) (l : List Call) (c : Call) (i j : ℕ)
 abbrev pub addressCall : SessionNumber → Place → (width : ℕ) → Call
 addressCall s p width = on s (p .bridge) (address (p .bus) (p .device) (p .function) (p .offset) width)
 
--- accepted, with this result and no buffer
+-- accepted, with this result; no buffer is lent
 abbrev pub answers : Result → Outcome
-answers r = record { number = 0; result = r; left = [] }
+answers r = outcome 0 r []
 
 -- "An address given to a session, read back under that session, gives the place asked for", at any two times
 abbrev pub ThereAndBack : Type 0

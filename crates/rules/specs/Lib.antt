@@ -12,3 +12,4 @@ pub mod Calls
 pub mod History
 pub mod Claims
 pub mod BenchSheet
+pub mod BenchRuns

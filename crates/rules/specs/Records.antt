@@ -1,4 +1,4 @@
--- Record blocks and register values.
+-- _HPX setting records: record blocks, the record search, register values.
 use Prim.Native.Nat.{ℕ, zero, suc, _+_, _*_, _%_}
 use mathlib.Core.Bool.{Bool, true, false, not, cond, _&&_, _||_}
 use mathlib.Core.List.{List, [], _∷_}

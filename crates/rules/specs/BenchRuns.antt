@@ -1,0 +1,230 @@
+-- Example runs: starts, a run of two sessions on one table, and record searches, with all that each gives.
+use Prim.Native.Nat.{ℕ, zero, suc}
+use mathlib.Core.Bool.{true, false}
+use mathlib.Core.List.{List, [], _∷_, _++_}
+use lib.ListN.{set, replicate}
+use Rattle.rules.specs.Place.{placeBad}
+use Rattle.rules.specs.Start.{StartInput, startNumber, startTable}
+use Rattle.rules.specs.Osc.{uuidBytes}
+use Rattle.rules.specs.Records.{Found, findRecord}
+use Rattle.rules.specs.Calls.{osc, reset, report, address, registerValues, Call, on, locate, nothing, reported, addressed, located, values, outcome, outcomes}
+use Rattle.rules.specs.BenchSheet.{Line, _gives_, AllHold, oscOn}
+use Rattle.rules.specs.declared.BridgeKind.{BridgeKind}
+use Rattle.rules.specs.declared.BridgeKind.the-variants.{Express, Conventional}
+use Rattle.rules.specs.declared.BridgeNumber.{BridgeNumber}
+use Rattle.rules.specs.declared.BridgeRow.{BridgeRow}
+use Rattle.rules.specs.declared.SessionNumber.{SessionNumber}
+
+-- ---- starts
+
+-- one entry: base 0xE0000000, segment 0, buses 0 to 255
+abbrev pub oneEntry : List ℕ
+oneEntry =
+    0x4D ∷ 0x43 ∷ 0x46 ∷ 0x47 ∷ 0x3C ∷ 0 ∷ 0 ∷ 0 ∷ 1 ∷ 0xC7 ∷ 0 ∷ 0 ∷ 0 ∷ 0 ∷ 0 ∷ 0
+    ∷ 0 ∷ 0 ∷ 0 ∷ 0 ∷ 0 ∷ 0 ∷ 0 ∷ 0 ∷ 0 ∷ 0 ∷ 0 ∷ 0 ∷ 0 ∷ 0 ∷ 0 ∷ 0
+    ∷ 0 ∷ 0 ∷ 0 ∷ 0 ∷ 0 ∷ 0 ∷ 0 ∷ 0 ∷ 0 ∷ 0 ∷ 0 ∷ 0 ∷ 0 ∷ 0 ∷ 0 ∷ 0xE0
+    ∷ 0 ∷ 0 ∷ 0 ∷ 0 ∷ 0 ∷ 0 ∷ 0 ∷ 0xFF ∷ 0 ∷ 0 ∷ 0 ∷ 0 ∷ []
+
+-- two entries: 0xE0000000, segment 0, buses 0 to 15; 0xE0F00000, segment 1, bus 0, whose window lies in the first
+abbrev pub sharedByte : List ℕ
+sharedByte =
+    0x4D ∷ 0x43 ∷ 0x46 ∷ 0x47 ∷ 0x4C ∷ 0 ∷ 0 ∷ 0 ∷ 1 ∷ 0xD6 ∷ 0 ∷ 0 ∷ 0 ∷ 0 ∷ 0 ∷ 0
+    ∷ 0 ∷ 0 ∷ 0 ∷ 0 ∷ 0 ∷ 0 ∷ 0 ∷ 0 ∷ 0 ∷ 0 ∷ 0 ∷ 0 ∷ 0 ∷ 0 ∷ 0 ∷ 0
+    ∷ 0 ∷ 0 ∷ 0 ∷ 0 ∷ 0 ∷ 0 ∷ 0 ∷ 0 ∷ 0 ∷ 0 ∷ 0 ∷ 0 ∷ 0 ∷ 0 ∷ 0 ∷ 0xE0
+    ∷ 0 ∷ 0 ∷ 0 ∷ 0 ∷ 0 ∷ 0 ∷ 0 ∷ 0x0F ∷ 0 ∷ 0 ∷ 0 ∷ 0 ∷ 0 ∷ 0 ∷ 0xF0 ∷ 0xE0
+    ∷ 0 ∷ 0 ∷ 0 ∷ 0 ∷ 1 ∷ 0 ∷ 0 ∷ 0 ∷ 0 ∷ 0 ∷ 0 ∷ 0 ∷ []
+
+abbrev pub row : BridgeKind → (owner first last permitted : ℕ) → BridgeRow
+row kind owner first last permitted = record { owner = record { 0 = owner }; segment = 0; «first_bus» = first; «last_bus» = last; kind = kind; permitted = permitted }
+
+abbrev pub starting : List ℕ → List BridgeRow → StartInput
+starting m rows = record { mcfg = m; rows = rows }
+
+-- a class bridge of session 3 and a plant bridge of session 5
+abbrev pub lesson : StartInput
+lesson = starting oneEntry (row Express 3 0 15 0x1F ∷ row Express 5 16 31 0x1F ∷ [])
+
+-- n rows of one bus each
+abbrev pub oneBusRows : ℕ → List BridgeRow
+oneBusRows zero = []
+oneBusRows (suc n) = row Express 3 n n 0 ∷ oneBusRows n
+
+abbrev pub starts : List Line
+starts =
+    (startNumber lesson gives 0)
+    ∷ (startNumber (starting oneEntry []) gives 0)
+    -- a byte too many; revision 2; base 0xE0080000; two windows that share a byte
+    ∷ (startNumber (starting (oneEntry ++ 0 ∷ []) []) gives 6)
+    ∷ (startNumber (starting (set (set oneEntry 8 2) 9 0xC6) []) gives 6)
+    ∷ (startNumber (starting (set (set oneEntry 46 8) 9 0xBF) []) gives 6)
+    ∷ (startNumber (starting sharedByte []) gives 6)
+    -- a reserved byte, with the sum and without it
+    ∷ (startNumber (starting (set (set oneEntry 36 1) 9 0xC6) []) gives 0)
+    ∷ (startNumber (starting (set oneEntry 36 1) []) gives 6)
+    -- rows that share bus 15; owner 16; permitted bit 5; a conventional row; 16 and 17 rows
+    ∷ (startNumber (starting oneEntry (row Express 3 0 15 0x1F ∷ row Express 5 15 31 0x1F ∷ [])) gives 7)
+    ∷ (startNumber (starting oneEntry (row Express 16 0 15 0x1F ∷ [])) gives 7)
+    ∷ (startNumber (starting oneEntry (row Express 3 0 15 0x20 ∷ [])) gives 7)
+    ∷ (startNumber (starting oneEntry (row Conventional 3 0 15 0x12 ∷ [])) gives 7)
+    ∷ (startNumber (starting oneEntry (row Conventional 3 0 15 0x02 ∷ [])) gives 0)
+    ∷ (startNumber (starting oneEntry (oneBusRows 16)) gives 0)
+    ∷ (startNumber (starting oneEntry (oneBusRows 17)) gives 7)
+    ∷ []
+
+-- ---- a run
+
+abbrev pub class : SessionNumber
+class = record { 0 = 3 }
+
+abbrev pub plant : SessionNumber
+plant = record { 0 = 5 }
+
+abbrev pub bridge : ℕ → BridgeNumber
+bridge k = record { 0 = k }
+
+-- an answer buffer as lent
+abbrev pub lentAnswer : List ℕ
+lentAnswer = replicate 12 0xAA
+
+-- query, support 0x1F, control 0x1F; taking, support 0xFF, control 0x3F; taking, support 0, control 0x11
+abbrev pub queryAll : List ℕ
+queryAll = 1 ∷ 0 ∷ 0 ∷ 0 ∷ 0x1F ∷ 0 ∷ 0 ∷ 0 ∷ 0x1F ∷ 0 ∷ 0 ∷ 0 ∷ []
+
+abbrev pub takeAll : List ℕ
+takeAll = 0 ∷ 0 ∷ 0 ∷ 0 ∷ 0xFF ∷ 0 ∷ 0 ∷ 0 ∷ 0x3F ∷ 0 ∷ 0 ∷ 0 ∷ []
+
+abbrev pub takeTwo : List ℕ
+takeTwo = 0 ∷ 0 ∷ 0 ∷ 0 ∷ 0 ∷ 0 ∷ 0 ∷ 0 ∷ 0x11 ∷ 0 ∷ 0 ∷ 0 ∷ []
+
+-- the type 2 record of document 002, table 6-9
+abbrev pub type2 : List ℕ
+type2 =
+    2 ∷ 0x44 ∷ 0 ∷ 1 ∷ 0 ∷ 0 ∷ 0 ∷ 0xF0 ∷ 0xFF ∷ 0xFF ∷ 0xFF ∷ 1 ∷ 0 ∷ 0 ∷ 0 ∷ 0xF0
+    ∷ 0xFF ∷ 0xFF ∷ 0xFF ∷ 2 ∷ 0 ∷ 0 ∷ 0 ∷ 0xF0 ∷ 0xFF ∷ 0xFF ∷ 0xFF ∷ 3 ∷ 0 ∷ 0 ∷ 0 ∷ 0xF0
+    ∷ 0xFF ∷ 0xFF ∷ 0xFF ∷ 4 ∷ 0 ∷ 0 ∷ 0 ∷ 0xF0 ∷ 0xFF ∷ 0 ∷ 0 ∷ 6 ∷ 0 ∷ 0 ∷ 0 ∷ 0xFC
+    ∷ 0xFF ∷ 0 ∷ 0 ∷ 2 ∷ 0 ∷ 0 ∷ 0 ∷ 0xF0 ∷ 0xFF ∷ 0xFF ∷ 0xFF ∷ 7 ∷ 0 ∷ 0 ∷ 0 ∷ 0xF0
+    ∷ 0xFF ∷ 0xFF ∷ 0xFF ∷ 8 ∷ 0 ∷ 0 ∷ 0 ∷ []
+
+-- a field that is skipped
+abbrev pub skipped : List ℕ
+skipped = 0x03 ∷ 0 ∷ 0 ∷ []
+
+abbrev pub current : List ℕ
+current = 0x11110 ∷ 0x2222 ∷ 0x3333 ∷ 0x4444 ∷ 0x2110 ∷ 0x43 ∷ 0x7777 ∷ 0x8888 ∷ []
+
+abbrev pub calls : List Call
+calls =
+    on class (bridge 0) (osc 1 3 uuidBytes queryAll lentAnswer)
+    ∷ on class (bridge 0) report
+    ∷ on class (bridge 0) (osc 1 3 uuidBytes takeAll lentAnswer)
+    ∷ on class (bridge 1) (osc 1 3 uuidBytes takeAll lentAnswer)
+    ∷ on class (bridge 2) report
+    ∷ on plant (bridge 1) (osc 2 1 uuidBytes (replicate 4 0) (replicate 4 0xAA))
+    ∷ on plant (bridge 1) report
+    ∷ on class (bridge 0) report
+    ∷ on class (bridge 0) (address 1 2 3 0x10 4)
+    ∷ on class (bridge 0) (address 15 31 7 4095 1)
+    ∷ on plant (bridge 1) (address 16 0 0 0 4)
+    ∷ on class (bridge 0) (address 16 32 0 0 4)
+    ∷ on class (bridge 0) (address 16 0 0 0 4)
+    ∷ locate class 0xE0113010
+    ∷ locate class 0xE0FFFFFF
+    ∷ locate plant 0xE0113010
+    ∷ on class (bridge 0) (registerValues [] type2 current)
+    ∷ on class (bridge 0) (registerValues skipped type2 current)
+    ∷ on plant (bridge 1) (registerValues [] type2 [])
+    ∷ on class (bridge 0) (registerValues [] type2 [])
+    ∷ on plant (bridge 0) reset
+    ∷ on class (bridge 0) reset
+    ∷ on class (bridge 0) report
+    ∷ on class (bridge 0) (osc 1 3 uuidBytes takeTwo lentAnswer)
+    ∷ on class (bridge 0) (registerValues type2 [] current)
+    ∷ []
+
+abbrev pub run : List Line
+run =
+    (outcomes (startTable lesson) calls gives
+    outcome 0 nothing (uuidBytes ∷ queryAll ∷ (0 ∷ 0 ∷ 0 ∷ 0 ∷ 0x1F ∷ 0 ∷ 0 ∷ 0 ∷ 0x1F ∷ 0 ∷ 0 ∷ 0 ∷ []) ∷ [])
+    ∷ outcome 0 (reported (record { held = 0; supported = 0 })) []
+    ∷ outcome 0 nothing (uuidBytes ∷ takeAll ∷ (0x10 ∷ 0 ∷ 0 ∷ 0 ∷ 0xFF ∷ 0 ∷ 0 ∷ 0 ∷ 0x1F ∷ 0 ∷ 0 ∷ 0 ∷ []) ∷ [])
+    ∷ outcome 2 nothing (uuidBytes ∷ takeAll ∷ lentAnswer ∷ [])
+    ∷ outcome 1 (reported (record { held = 0; supported = 0 })) []
+    ∷ outcome 0 nothing (uuidBytes ∷ replicate 4 0 ∷ (0x08 ∷ 0 ∷ 0 ∷ 0 ∷ []) ∷ [])
+    ∷ outcome 0 (reported (record { held = 0; supported = 0 })) []
+    ∷ outcome 0 (reported (record { held = 0x1F; supported = 0x1F })) []
+    ∷ outcome 0 (addressed 0xE0113010) []
+    ∷ outcome 0 (addressed 0xE0FFFFFF) []
+    ∷ outcome 0 (addressed 0xE1000000) []
+    ∷ outcome 5 (addressed 0) []
+    ∷ outcome 4 (addressed 0) []
+    ∷ outcome 0 (located (record { bridge = bridge 0; bus = 1; device = 2; function = 3; offset = 0x10 })) []
+    ∷ outcome 0 (located (record { bridge = bridge 0; bus = 15; device = 31; function = 7; offset = 4095 })) []
+    ∷ outcome 4 (located (record { bridge = bridge 0; bus = 0; device = 0; function = 0; offset = 0 })) []
+    ∷ outcome 0 (values (0x11110 ∷ 0x2222 ∷ 0x3333 ∷ 0x4444 ∷ 0x2116 ∷ 0x42 ∷ 0x7777 ∷ 0x8888 ∷ [])) ([] ∷ type2 ∷ current ∷ [])
+    ∷ outcome 9 (values (replicate 8 0)) (skipped ∷ type2 ∷ current ∷ [])
+    ∷ outcome 11 (values (replicate 8 0)) ([] ∷ type2 ∷ [] ∷ [])
+    ∷ outcome 10 (values (replicate 8 0)) ([] ∷ type2 ∷ [] ∷ [])
+    ∷ outcome 2 nothing []
+    ∷ outcome 0 nothing []
+    ∷ outcome 0 (reported (record { held = 0; supported = 0 })) []
+    ∷ outcome 0 nothing (uuidBytes ∷ takeTwo ∷ (0 ∷ 0 ∷ 0 ∷ 0 ∷ 0 ∷ 0 ∷ 0 ∷ 0 ∷ 0x11 ∷ 0 ∷ 0 ∷ 0 ∷ []) ∷ [])
+    ∷ outcome 0 (values (0x11111 ∷ 0x2222 ∷ 0x3333 ∷ 0x4444 ∷ 0x2116 ∷ 0x42 ∷ 0x7777 ∷ 0x8888 ∷ [])) (type2 ∷ [] ∷ current ∷ [])
+    ∷ [])
+    ∷ []
+
+-- ---- record searches
+
+-- records of types 0 and 1, the example of document 002
+abbrev pub types01 : List ℕ
+types01 =
+    0 ∷ 0x14 ∷ 0 ∷ 1 ∷ 0 ∷ 0 ∷ 0 ∷ 8 ∷ 0 ∷ 0 ∷ 0 ∷ 0x40 ∷ 0 ∷ 0 ∷ 0 ∷ 1 ∷ 0 ∷ 0 ∷ 0 ∷ 0 ∷ 0 ∷ 0 ∷ 0
+    ∷ 1 ∷ 0x10 ∷ 0 ∷ 1 ∷ 0 ∷ 0 ∷ 0 ∷ 3 ∷ 0 ∷ 0 ∷ 0 ∷ 4 ∷ 0 ∷ 0 ∷ 0 ∷ 7 ∷ 0 ∷ 0 ∷ 0 ∷ []
+
+abbrev pub found : ℕ → ℕ → ℕ → Found
+found number start size = record { number = number; start = start; size = size }
+
+abbrev pub searches : List Line
+searches =
+    (findRecord [] types01 0 gives found 0 0 23)
+    ∷ (findRecord types01 [] 1 gives found 0 23 19)
+    ∷ (findRecord [] types01 2 gives found 9 0 0)
+    ∷ (findRecord [] [] 0 gives found 9 0 0)
+    ∷ (findRecord skipped types01 0 gives found 9 0 0)
+    ∷ (findRecord skipped [] 3 gives found 9 0 0)
+    -- two bytes left over; two records of type 0; length 3; SERR 2; Device Control mask 65536; a length past the end
+    ∷ (findRecord [] (types01 ++ 0 ∷ 0 ∷ []) 0 gives found 8 0 0)
+    ∷ (findRecord [] (types01 ++ types01) 7 gives found 8 0 0)
+    ∷ (findRecord [] (0x00 ∷ 3 ∷ 0 ∷ 1 ∷ 0 ∷ 0 ∷ []) 0 gives found 8 0 0)
+    ∷ (findRecord [] (set types01 15 2) 1 gives found 8 0 0)
+    ∷ (findRecord [] (set type2 41 1) 2 gives found 8 0 0)
+    ∷ (findRecord [] (0x05 ∷ 0xFF ∷ 0xFF ∷ []) 0 gives found 8 0 0)
+    -- revision 2 is skipped; 1024 bytes, and 1025
+    ∷ (findRecord [] (set types01 3 2) 0 gives found 9 0 0)
+    ∷ (findRecord [] (0x03 ∷ 0xFD ∷ 0x03 ∷ replicate 1021 0) 0 gives found 9 0 0)
+    ∷ (findRecord [] (0x03 ∷ 0xFE ∷ 0x03 ∷ replicate 1022 0) 0 gives found 8 0 0)
+    ∷ []
+
+-- ---- grants beyond the sheet: a held bit that is not permitted; a bit above 4; status and support of all bits
+
+abbrev pub grants : List Line
+grants =
+    (oscOn 0 0x02 (0 ∷ 0 ∷ 0 ∷ 0 ∷ 0 ∷ 0 ∷ 0 ∷ 0 ∷ 0x02 ∷ 0 ∷ 0 ∷ 0 ∷ []) gives record { answer = 0 ∷ 0 ∷ 0 ∷ 0 ∷ 0 ∷ 0 ∷ 0 ∷ 0 ∷ 0x02 ∷ 0 ∷ 0 ∷ 0 ∷ []; held = 0x02 })
+    ∷ (oscOn 0x1F 0 (0 ∷ 0 ∷ 0 ∷ 0 ∷ 0 ∷ 0 ∷ 0 ∷ 0 ∷ 0 ∷ 0 ∷ 0 ∷ 0x80 ∷ []) gives record { answer = 0x10 ∷ 0 ∷ 0 ∷ 0 ∷ 0 ∷ 0 ∷ 0 ∷ 0 ∷ 0 ∷ 0 ∷ 0 ∷ 0 ∷ []; held = 0 })
+    ∷ (oscOn 0x1F 0 (0xFE ∷ 0xFF ∷ 0xFF ∷ 0xFF ∷ 0xEF ∷ 0xBE ∷ 0xAD ∷ 0xDE ∷ 0x10 ∷ 0 ∷ 0 ∷ 0 ∷ []) gives record { answer = 0 ∷ 0 ∷ 0 ∷ 0 ∷ 0xEF ∷ 0xBE ∷ 0xAD ∷ 0xDE ∷ 0x10 ∷ 0 ∷ 0 ∷ 0 ∷ []; held = 0x10 })
+    ∷ []
+
+-- ---- refusal 5
+
+abbrev pub places : List Line
+places =
+    (placeBad 31 7 4092 4 gives false)
+    ∷ (placeBad 32 7 4092 4 gives true)
+    ∷ (placeBad 31 8 4092 4 gives true)
+    ∷ (placeBad 31 7 4094 4 gives true)
+    ∷ (placeBad 31 7 4096 1 gives true)
+    ∷ (placeBad 31 7 0 0 gives true)
+    ∷ (placeBad 31 7 0 3 gives true)
+    ∷ []
+
+abbrev pub ExampleRuns : Type 0
+ExampleRuns = AllHold starts × AllHold run × AllHold searches × AllHold grants × AllHold places
