@@ -2,20 +2,18 @@
 -- Assumes nothing.
 use mathlib.Core.Path.{_≡_, refl, sym, ap, _∙_}
 use mathlib.Core.Logic.{_↔_}
-use mathlib.Core.Bool.{Bool, true, false, not, cond, _&&_}
-use mathlib.Core.List.{List, [], _∷_}
+use mathlib.Core.List.{List, []}
 use mathlib.Core.Option.{Option, none, some}
 use Prim.Native.Nat.{ℕ, zero, suc}
 use Rattle.rules.specs.Refusals.{Refusal, firstOf, GivenBy}
-use Rattle.rules.specs.Tables.{Holding, nothingHeld, holding, withHolding, bridgeAt, withBridge, fixed}
+use Rattle.rules.specs.Tables.{Holding, withHolding, bridgeAt, withBridge, fixed}
 use Rattle.rules.specs.Place.{Place, noPlace}
 use Rattle.rules.specs.Start.{StartInput, startRefusals, startNumber, startBy, startTable, tableOf}
-use Rattle.rules.specs.Osc.{recognised, query, oscAfter}
-use Rattle.rules.specs.Records.{Field, Found, recordRefusals, foundBy, findRecord, deciding, recordIn}
-use Rattle.rules.specs.Calls.{Operation, osc, Call, on, locate, numberAt, outcomeBy, bridgeBy, locateBy, locateRefusals, placeBy, windowOf, located, step, listed, zeros, lent, zerosOf, lentTo, tableAfter}
+use Rattle.rules.specs.Osc.{recognised, oscAfter}
+use Rattle.rules.specs.Records.{Field, recordRefusals, foundBy, findRecord, deciding, recordIn}
+use Rattle.rules.specs.Calls.{osc, Call, on, locate, numberAt, outcomeBy, bridgeBy, locateBy, locateRefusals, placeBy, windowOf, located, step, listed, zeros, lent, zerosOf, lentTo, tableAfter}
 use Rattle.rules.specs.History.{historyFrom}
 use Rattle.rules.specs.Claims.{RefusalsExactly, RefusedChangesNothing, TablesSound, History, QueriesChangeNothing, HeldUntilReset, ThereAndBack, BackAndThere, OneAddress, Separation, Negotiation}
-use Rattle.rules.specs.declared.Bridge.{Bridge}
 use Rattle.rules.specs.declared.Table.{Table}
 use Rattle.rules.proofs.Tests.{and-off}
 use Rattle.rules.proofs.Refusals.{exactly}

@@ -6,9 +6,9 @@ use mathlib.Core.Bool.{Bool, true, false, _&&_, _||_}
 use Prim.Native.Nat.{ℕ, zero, suc, _^_, _≤_, _<_}
 use native.Mathlib.Omega.{arith}
 use borrow.Author.Tests.{eq-eqb}
-use lib.Bits.{bitAnd, bitOr, and-zero-l}
+use lib.Bits.{bitAnd, and-zero-l}
 use lib.ListN.{getD}
-use Rattle.rules.specs.Numbers.{bit, within, number}
+use Rattle.rules.specs.Numbers.{bit, within}
 use Rattle.rules.specs.Osc.{controlNeeds, knownControl, available, grantedBit, granted}
 use Rattle.rules.specs.Claims.{GrantedBits}
 use Rattle.rules.specs.declared.Bridge.{Bridge}

@@ -1,25 +1,22 @@
 -- After any list of calls each bridge holds what the list gives.
 -- Assumes nothing.
 use mathlib.Core.Path.{_≡_, refl, sym, ap, _∙_, subst}
-use mathlib.Core.Logic.{_⊎_, inl, inr}
-use mathlib.Core.Bool.{Bool, true, false, not, cond, _&&_, _||_}
+use mathlib.Core.Bool.{Bool, true, false, not, cond, _&&_}
 use mathlib.Core.List.{List, [], _∷_}
 use Prim.Native.Nat.{ℕ, zero, suc, _<_}
 use native.Mathlib.Omega.{arith}
 use borrow.Author.Tests.{eqb-true, eqb-false}
-use lib.Bits.{bitOr}
-use lib.Dec.{eqb, leb, eqb·suc-zero}
-use lib.ListN.{length, getD, set}
+use lib.Dec.{eqb, eqb·suc-zero}
+use lib.ListN.{length}
 use lib.Seq.{getD-set-same, getD-set-other}
 use Rattle.rules.specs.Numbers.{bit}
 use Rattle.rules.specs.Refusals.{_if_, firstOf}
-use Rattle.rules.specs.Tables.{Holding, nothingHeld, holding, withHolding, owns, noBridge, bridgeAt, withBridge, fixed}
+use Rattle.rules.specs.Tables.{Holding, holding, withHolding, noBridge, bridgeAt, withBridge, fixed}
 use Rattle.rules.specs.Start.{Sound}
-use Rattle.rules.specs.Osc.{support, control, granted, framed, recognised, query, joined, oscAfter}
-use Rattle.rules.specs.Calls.{Operation, osc, reset, report, address, registerValues, Call, on, locate, after, numberAt, bridgeBy, step, tableAfter}
-use Rattle.rules.specs.History.{reaches, takes, historyStep, historyFrom, takesOrResets}
+use Rattle.rules.specs.Osc.{support, control, granted, framingBad, recognised, query, joined, oscAfter}
+use Rattle.rules.specs.Calls.{Operation, absent, foreign, osc, reset, report, address, registerValues, Call, on, locate, after, numberAt, bridgeBy, step, tableAfter}
+use Rattle.rules.specs.History.{reaches, takes, historyStep, historyFrom}
 use Rattle.rules.specs.Claims.{Undisturbed}
-use Rattle.rules.specs.declared.Bridge.{Bridge}
 use Rattle.rules.specs.declared.BridgeNumber.{BridgeNumber}
 use Rattle.rules.specs.declared.SessionNumber.{SessionNumber}
 use Rattle.rules.specs.declared.Table.{Table}
@@ -43,16 +40,16 @@ holding-by k u n i o h = go (eqb n i) refl
         rw (eqb-true n i e) (ap holding (getD-set-same (u .bridges) i (bridgeBy k (bridgeAt u i) o) noBridge h) ∙ stored k)
     go false e = ap holding (getD-set-other (u .bridges) n i (bridgeBy k (bridgeAt u n) o) noBridge (λ j. eqb-false n i e (sym j)))
 
-none-of-1-2 : (a o : Bool) → eqb (firstOf ((1 if a) ∷ (2 if not o) ∷ [])) 0 ≡ (not a && o)
-none-of-1-2 true o = refl
+none-of-1-2 : (a f : Bool) → eqb (firstOf ((1 if a) ∷ (2 if f) ∷ [])) 0 ≡ (not a && not f)
+none-of-1-2 true f = refl
 none-of-1-2 false true = refl
 none-of-1-2 false false = refl
 
-none-of-1-2-3 : (a o f : Bool) → eqb (firstOf ((1 if a) ∷ (2 if not o) ∷ (3 if not f) ∷ [])) 0 ≡ (not a && o && f)
-none-of-1-2-3 true o f = refl
-none-of-1-2-3 false true true = refl
-none-of-1-2-3 false true false = refl
-none-of-1-2-3 false false f = refl
+none-of-1-2-3 : (a f m : Bool) → eqb (firstOf ((1 if a) ∷ (2 if f) ∷ (3 if m) ∷ [])) 0 ≡ (not a && not f && not m)
+none-of-1-2-3 true f m = refl
+none-of-1-2-3 false true m = refl
+none-of-1-2-3 false false true = refl
+none-of-1-2-3 false false false = refl
 
 cond-same : (q : Bool) (h : Holding) → cond q h h ≡ h
 cond-same true h = refl
@@ -77,12 +74,12 @@ history-next u i (on s n (osc revision count uuid caps answer)) h =
     let o = osc revision count uuid caps answer in
     let b = bridgeAt u (n .0) in
     holding-by (numberAt (u .count) s n b o) u (n .0) i o h
-    ∙ rw (none-of-1-2-3 (leb (u .count) (n .0)) (owns s b) (framed count uuid caps answer))
-    (cond-cond (eqb (n .0) i) (not (leb (u .count) (n .0))) (owns s b) (framed count uuid caps answer) (recognised revision count uuid && not (query caps))
+    ∙ rw (none-of-1-2-3 (absent (u .count) n) (foreign s b) (framingBad count uuid caps answer))
+    (cond-cond (eqb (n .0) i) (not (absent (u .count) n)) (not (foreign s b)) (not (framingBad count uuid caps answer)) (recognised revision count uuid && not (query caps))
     (joined (bridgeAt u i) caps) (holding (bridgeAt u i)))
 history-next u i (on s n reset) h =
     holding-by (numberAt (u .count) s n (bridgeAt u (n .0)) reset) u (n .0) i reset h
-    ∙ rw (none-of-1-2 (leb (u .count) (n .0)) (owns s (bridgeAt u (n .0))))
+    ∙ rw (none-of-1-2 (absent (u .count) n) (foreign s (bridgeAt u (n .0))))
 history-next u i (on s n report) h = holding-kept u (numberAt (u .count) s n (bridgeAt u (n .0)) report) (n .0) i report h refl
 history-next u i (on s n (address bus device function offset width)) h =
     let o = address bus device function offset width in
@@ -115,17 +112,9 @@ in-array t st i h = omega (arith, st .full-length, st .few)
 
 -- ---- calls that neither take nor reset leave what the bridge holds
 
-undisturbed-one : (t : Table) (i : ℕ) (h : Holding) (c : Call) → takesOrResets t i c ≡ false → historyStep t i h c ≡ h
-undisturbed-one t i h (on s n (osc revision count uuid caps answer)) e = rw e
-undisturbed-one t i h (on s n reset) e = rw e
-undisturbed-one t i h (on s n report) e = refl
-undisturbed-one t i h (on s n (address bus device function offset width)) e = refl
-undisturbed-one t i h (on s n (registerValues slot block current)) e = refl
-undisturbed-one t i h (locate s a) e = refl
-
 pub undisturbed : (t : Table) (i : ℕ) (h : Holding) (l : List Call) → Undisturbed t i l → historyFrom t i h l ≡ h
 undisturbed t i h [] q = refl
-undisturbed t i h (c ∷ l) q = ap (λ (x : Holding). historyFrom t i x l) (undisturbed-one t i h c (q .0)) ∙ undisturbed t i h l (q .1)
+undisturbed t i h (c ∷ l) q = ap (λ (x : Holding). historyFrom t i x l) (q .0 h) ∙ undisturbed t i h l (q .1)
 
 -- ---- a held bit leaves only by an accepted reset
 

@@ -1,15 +1,15 @@
 -- A call on a bridge reads and changes that bridge alone; a call on none reads what no call changes, and changes nothing.
 -- All that separation and the history need to know of the kinds of calls stands here.
 -- Assumes nothing.
-use mathlib.Core.Path.{_≡_, refl, sym, ap, ap₂, _∙_}
-use mathlib.Core.Bool.{Bool, true, false, not, cond}
-use mathlib.Core.List.{List, [], _∷_, map}
+use mathlib.Core.Path.{_≡_, refl, sym, ap, _∙_}
+use mathlib.Core.Bool.{Bool, true, false, cond}
+use mathlib.Core.List.{List, [], _∷_}
 use mathlib.Core.Option.{Option, none, some, Option·some-ne-none, Option·none-ne-some}
 use Prim.Native.Nat.{ℕ, zero, suc}
 use lib.Dec.{leb}
-use lib.ListN.{getD, set, List·getD-map}
+use lib.ListN.{set, List·getD-map}
 use lib.Seq.{set-getD, map-set-same}
-use Rattle.rules.specs.Tables.{withHolding, cleared, owns, noBridge, bridgeAt, withBridges, withBridge, fixed}
+use Rattle.rules.specs.Tables.{cleared, owns, noBridge, bridgeAt, withBridges, withBridge, fixed}
 use Rattle.rules.specs.Calls.{Operation, osc, reset, report, address, registerValues, Call, on, locate, numberAt, outcomeBy, bridgeBy, locateIn, step, sessionOf, tableAfter}
 use Rattle.rules.specs.declared.Bridge.{Bridge}
 use Rattle.rules.specs.declared.BridgeNumber.{BridgeNumber}

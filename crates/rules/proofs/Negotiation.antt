@@ -1,22 +1,21 @@
 -- The second answer is never masked, and the taking call grants exactly those bits, which are then held.
 -- Assumes nothing.
 use mathlib.Core.Path.{_≡_, refl, sym, ap, ap₂, _∙_, subst}
-use mathlib.Core.Bool.{Bool, true, false, not, _&&_}
-use mathlib.Core.List.{List, [], _∷_, _++_}
+use mathlib.Core.Bool.{true, false, not, _&&_}
+use mathlib.Core.List.{List, _∷_, _++_}
 use Prim.Native.Nat.{ℕ, _+_, _*_, _/_, _%_, _^_, _<_}
 use native.Mathlib.Nat.{mod-eq-of-lt}
 use native.Mathlib.Omega.{arith}
-use borrow.Author.Tests.{eqb-true, eq-eqb, lt-leb}
-use lib.Bits.{bitAnd, bitOr, and-self}
-use lib.Dec.{eqb, leb}
+use borrow.Author.Tests.{eq-eqb, lt-leb}
+use lib.Bits.{bitOr, and-self}
 use lib.ListN.{length}
 use lib.Pow.{shr-shr, shr-lt, split}
-use Rattle.rules.specs.Numbers.{dword, le32, within}
+use Rattle.rules.specs.Numbers.{le32}
 use Rattle.rules.specs.Tables.{Holding, holding, withHolding, owns, bridgeAt, fixed}
 use Rattle.rules.specs.Start.{Sound}
-use Rattle.rules.specs.Osc.{granted, grantStatus, uuidBytes, framed, recognised, status, query, support, control, oscAnswer}
+use Rattle.rules.specs.Osc.{granted, grantStatus, uuidBytes, framingBad, recognised, status, query, support, control, oscAnswer}
 use Rattle.rules.specs.Calls.{osc, Call, numberAt, step, tableAfter}
-use Rattle.rules.specs.History.{reaches, historyStep, takesOrResets}
+use Rattle.rules.specs.History.{reaches, historyStep}
 use Rattle.rules.specs.Claims.{Buffers, rightCall, answerOf, Undisturbed, returned, Negotiated}
 use Rattle.rules.specs.declared.Bridge.{Bridge}
 use Rattle.rules.specs.declared.BridgeNumber.{BridgeNumber}
@@ -50,8 +49,8 @@ module _ (t : Table) (s : SessionNumber) (n : BridgeNumber) (h : n .0 < t .count
   unfolding recognised
   is-recognised = refl
 
-  is-framed : framed 3 uuidBytes (c .caps) (c .answer) ≡ true
-  unfolding framed
+  is-framed : framingBad 3 uuidBytes (c .caps) (c .answer) ≡ false
+  unfolding framingBad
   is-framed = rw (c .caps-length, c .answer-length)
 
   is-done : numberAt (t .count) s n (bridgeAt t (n .0)) (osc 1 3 uuidBytes (c .caps) (c .answer)) ≡ 0
@@ -80,8 +79,8 @@ module _ (t : Table) (s : SessionNumber) (n : BridgeNumber) (h : n .0 < t .count
   reached : reaches t (n .0) s n ≡ true
   reached = rw (eq-eqb (n .0) (n .0) refl, lt-leb (t .count) (n .0) h, o)
 
-  query-undisturbed : query (c .caps) ≡ true → (i : ℕ) → takesOrResets t i (rightCall s n c) ≡ false
-  query-undisturbed e i = rw (is-recognised, e) (and-off (reaches t i s n && framed 3 uuidBytes (c .caps) (c .answer)))
+  query-undisturbed : query (c .caps) ≡ true → (i : ℕ) (k : Holding) → historyStep t i k (rightCall s n c) ≡ k
+  query-undisturbed e i k = rw (is-recognised, e, and-off (reaches t i s n && not (framingBad 3 uuidBytes (c .caps) (c .answer))))
 
   taking-held : query (c .caps) ≡ false → n .0 < length (t .bridges)
       → bridgeAt (step t (rightCall s n c) .table) (n .0) .held ≡ bitOr (bridgeAt t (n .0) .held) g

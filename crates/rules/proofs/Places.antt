@@ -2,26 +2,25 @@
 -- Assumes nothing.
 use mathlib.Core.Path.{_≡_, refl, sym, ap, ap₂, _∙_, subst}
 use mathlib.Core.Logic.{_↔_}
-use mathlib.Core.Bool.{Bool, true, false, not, cond, _&&_}
+use mathlib.Core.Bool.{Bool, true, false, cond}
 use mathlib.Core.List.{List, [], _∷_, map}
 use mathlib.Core.Option.{Option, none, some}
-use Prim.Native.Nat.{ℕ, zero, suc, _+_, _-_, _*_, _/_, _^_, _%_, _≤_, _<_}
+use Prim.Native.Nat.{ℕ, zero, suc, _+_, _-_, _/_, _^_, _%_, _≤_, _<_}
 use native.Mathlib.Nat.{add-zero, zero-add, add-suc, suc-add, le-of-suc-le-suc, not-suc-le-zero}
 use native.Mathlib.Decide.{ℕ-discrete}
 use native.Mathlib.Omega.{arith}
 use borrow.Author.Tests.{eq-eqb, leb-true, ltb-true, le-ltb, lt-leb}
-use lib.Dec.{eqb, leb, ltb}
+use lib.Dec.{leb, ltb}
 use lib.ListN.{length, getD}
 use Rattle.rules.specs.Lists.{find, isNone}
 use Rattle.rules.specs.Refusals.{_if_, firstOf}
 use Rattle.rules.specs.Mcfg.{busStart, busEnd}
 use Rattle.rules.specs.Tables.{cleared, owns, noBridge, bridgeAt, bridgesOf, fixed}
-use Rattle.rules.specs.Place.{Place, addressOf, busOutside, inWindow, ownWindow, placeOf, noPlace, InReach}
+use Rattle.rules.specs.Place.{Place, addressOf, busOutside, inWindow, ownWindow, placeOf}
 use Rattle.rules.specs.Start.{Sound}
-use Rattle.rules.specs.Calls.{address, Call, on, locate, Result, addressed, located, Outcome, numberAt, outcomeBy, windowOf, placeBy, locateBy, locateIn, step}
+use Rattle.rules.specs.Calls.{address, on, locate, addressed, located, Outcome, numberAt, windowOf, placeBy, locateBy, locateIn, step}
 use Rattle.rules.specs.Claims.{addressCall, answers}
 use Rattle.rules.specs.declared.Bridge.{Bridge}
-use Rattle.rules.specs.declared.BridgeNumber.{BridgeNumber}
 use Rattle.rules.specs.declared.SessionNumber.{SessionNumber}
 use Rattle.rules.specs.declared.Table.{Table}
 use Rattle.rules.proofs.Tests.{and-true, and-is, fails}

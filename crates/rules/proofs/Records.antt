@@ -10,14 +10,14 @@ use native.Mathlib.Omega.{arith}
 use borrow.Author.Tests.{eqb-true, leb-true}
 use lib.Dec.{eqb, leb}
 use lib.ListN.{length, getD}
-use Rattle.rules.specs.Lists.{first, isNone}
+use Rattle.rules.specs.Lists.{isNone}
 use Rattle.rules.specs.Numbers.{byte, word, dword}
 use Rattle.rules.specs.Refusals.{_if_, firstOf}
-use Rattle.rules.specs.Records.{Field, fieldAt, prepend, fieldsFrom, fieldsOf, value, isRecord, blockSound, deciding, recordAmong, recordIn, Found, recordRefusals, foundBy, findRecord}
+use Rattle.rules.specs.Records.{Field, fieldAt, prepend, fieldsFrom, fieldsOf, value, isRecord, blockSound, deciding, recordAmong, recordIn, recordRefusals, foundBy}
 use Rattle.rules.specs.Claims.{RecordPart}
 use Rattle.rules.proofs.Tests.{and-true}
 use Rattle.rules.proofs.Refusals.{clear}
-use Rattle.rules.proofs.Lists.{Stands, stands}
+use Rattle.rules.proofs.Lists.{stands}
 
 noField : Field
 noField = record { start = 0; tag = 0; size = 0 }

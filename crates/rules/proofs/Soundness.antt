@@ -1,7 +1,7 @@
 -- A sound table stays sound: Sound reads only what no call changes.
 -- Assumes nothing.
-use mathlib.Core.Path.{_≡_, refl, sym, ap, _∙_, subst}
-use mathlib.Core.List.{List, [], _∷_, map}
+use mathlib.Core.Path.{_≡_, sym, ap, _∙_, subst}
+use mathlib.Core.List.{List}
 use Prim.Native.Nat.{ℕ, _≤_, _<_, _^_}
 use native.Mathlib.Omega.{arith}
 use lib.ListN.{length, getD, length-map}
@@ -13,7 +13,7 @@ use Rattle.rules.specs.Start.{Sound}
 use Rattle.rules.specs.Calls.{Call, step, tableAfter}
 use Rattle.rules.specs.declared.Bridge.{Bridge}
 use Rattle.rules.specs.declared.Table.{Table}
-use Rattle.rules.proofs.Local.{bridge-fixed, fixed-step, fixed-after, same-rows}
+use Rattle.rules.proofs.Local.{fixed-step, fixed-after, same-rows}
 
 module _ (u t : Table) (e : fixed u ≡ fixed t) where
   same-count : u .count ≡ t .count

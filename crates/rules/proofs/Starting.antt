@@ -2,10 +2,9 @@
 -- Assumes nothing.
 use mathlib.Core.Path.{_≡_, refl, sym, ap, _∙_, subst}
 use mathlib.Core.Logic.{_⊎_, inl, inr}
-use mathlib.Core.Bool.{Bool, true, false, not, _&&_, _||_}
+use mathlib.Core.Bool.{Bool, true, false, not, _&&_}
 use mathlib.Core.List.{List, [], _∷_, map}
-use mathlib.Core.Option.{Option, none, some}
-use Prim.Native.Nat.{ℕ, zero, suc, _+_, _*_, _%_, _^_, _≤_, _<_}
+use Prim.Native.Nat.{ℕ, zero, suc, _^_, _≤_, _<_}
 use native.Mathlib.Nat.{not-suc-le-zero}
 use native.Mathlib.Omega.{arith}
 use borrow.Author.Tests.{eqb-true, eqb-false, leb-true, ltb-true, ltb-false, not-false, not-true}
@@ -15,10 +14,10 @@ use lib.ListN.{length, getD, length-map}
 use Rattle.rules.specs.Limits.{maxRows}
 use Rattle.rules.specs.Lists.{every, pairwise, padded, isNone}
 use Rattle.rules.specs.Refusals.{_if_}
-use Rattle.rules.specs.Mcfg.{Entry, entries, busStart, busEnd, busesApart, entrySound, shareNoBus, shareNoByte, mcfgSound}
-use Rattle.rules.specs.Tables.{Holding, nothingHeld, holding, noBridge, bridgeAt}
+use Rattle.rules.specs.Mcfg.{Entry, entries, busStart, busEnd, busesApart, entrySound, shareNoByte, mcfgSound}
+use Rattle.rules.specs.Tables.{nothingHeld, holding, noBridge, bridgeAt}
 use Rattle.rules.specs.Place.{inWindow}
-use Rattle.rules.specs.Start.{StartInput, inside, entryOf, baseOf, rowSound, rowsApart, rowsSound, startNumber, bridgeOf, tableOf, startBy, startTable, Sound}
+use Rattle.rules.specs.Start.{StartInput, inside, entryOf, rowSound, rowsApart, rowsSound, startNumber, bridgeOf, tableOf, startBy, startTable, Sound}
 use Rattle.rules.specs.declared.Bridge.{Bridge}
 use Rattle.rules.specs.declared.BridgeKind.the-variants.{Express}
 use Rattle.rules.specs.declared.BridgeRow.{BridgeRow}

@@ -1,12 +1,12 @@
 -- The bench sheet: each starred line, with what the definitions give and what the sheet states. P permitted, H held, R requested, G granted.
 use Prim.Native.Nat.{ℕ}
 use mathlib.Core.Path.{_≡_}
-use mathlib.Core.Bool.{Bool, true, false}
+use mathlib.Core.Bool.{true, false}
 use mathlib.Core.List.{List, [], _∷_}
 use lib.ListN.{replicate}
 use Rattle.rules.specs.Mcfg.{entrySound}
 use Rattle.rules.specs.Records.{andOr, blockSound}
-use Rattle.rules.specs.Calls.{Operation, osc, address, Result, addressed, Outcome, numberAt, outcomeBy, bridgeBy}
+use Rattle.rules.specs.Calls.{Operation, osc, address, addressed, Outcome, outcome, numberAt, outcomeBy, bridgeBy}
 use Rattle.rules.specs.Claims.{answerOf}
 use Rattle.rules.specs.declared.Bridge.{Bridge}
 
@@ -32,14 +32,14 @@ bridgeWith p h = record { base = 0xE0000000; permitted = p; held = h; supported 
 abbrev pub numberOn : Bridge → Operation → ℕ
 numberOn b o = numberAt 1 (record { 0 = 1 }) (record { 0 = 0 }) b o
 
+abbrev pub outcomeOn : Bridge → Operation → Outcome
+outcomeOn b o = outcomeBy (numberOn b o) b o
+
 abbrev pub oscOn : (permitted held : ℕ) → (caps : List ℕ) → Answered
 oscOn p h caps =
     let b = bridgeWith p h in
     let o = osc 1 3 (0x5B ∷ 0x4D ∷ 0xDB ∷ 0x33 ∷ 0xF7 ∷ 0x1F ∷ 0x1C ∷ 0x40 ∷ 0x96 ∷ 0x57 ∷ 0x74 ∷ 0x41 ∷ 0xC0 ∷ 0x3D ∷ 0xD7 ∷ 0x66 ∷ []) caps (replicate 12 0xAA) in
-    record { answer = answerOf (outcomeBy (numberOn b o) b o); held = bridgeBy (numberOn b o) b o .held }
-
-abbrev pub addressOn : Bridge → (bus device function offset : ℕ) → Result
-addressOn b bus device function offset = outcomeBy (numberOn b (address bus device function offset 1)) b (address bus device function offset 1) .result
+    record { answer = answerOf (outcomeOn b o); held = bridgeBy (numberOn b o) b o .held }
 
 abbrev pub sheet : List Line
 sheet =
@@ -62,7 +62,7 @@ sheet =
     ∷ (oscOn 0x1F 0x1F (0 ∷ 0 ∷ 0 ∷ 0 ∷ 0 ∷ 0 ∷ 0 ∷ 0 ∷ 0x02 ∷ 0 ∷ 0 ∷ 0 ∷ [])
     gives record { answer = 0 ∷ 0 ∷ 0 ∷ 0 ∷ 0 ∷ 0 ∷ 0 ∷ 0 ∷ 0x02 ∷ 0 ∷ 0 ∷ 0 ∷ []; held = 0x1F })
     -- base 0xE0000000, place 1/2/3 offset 0x10: 0xE0113010
-    ∷ (addressOn (bridgeWith 0 0) 1 2 3 0x10 gives addressed 0xE0113010)
+    ∷ (outcomeOn (bridgeWith 0 0) (address 1 2 3 0x10 1) gives outcome 0 (addressed 0xE0113010) [])
     -- entry base 0xFFFFFFFFF0000000, buses 0 to 255: sound
     ∷ (entrySound (record { base = 0xFFFFFFFFF0000000; segment = 0; startBus = 0; endBus = 255 }) gives true)
     -- base 0xFFFFFFFFF0100000, end 255: unsound; end 254: sound

@@ -1,4 +1,4 @@
--- The calls on a table: what each refuses, hands back, leaves and changes; one call, and lists of calls.
+-- Document 01, "Refusal numbers" and "Proof of the pudding": what each call on a table refuses, hands back, leaves and changes; lists of calls.
 use Prim.Native.Nat.{ℕ, zero, suc}
 use mathlib.Core.Bool.{Bool, not, cond}
 use mathlib.Core.List.{List, [], _∷_}
@@ -10,14 +10,14 @@ use Rattle.rules.specs.Numbers.{bit}
 use Rattle.rules.specs.Refusals.{Refusal, _if_, firstOf}
 use Rattle.rules.specs.Tables.{Holding, nothingHeld, holding, withHolding, owns, bridgeAt, bridgesOf, withBridge, fixed}
 use Rattle.rules.specs.Place.{Place, addressOf, placeBad, busOutside, ownWindow, placeOf, noPlace}
-use Rattle.rules.specs.Osc.{framed, oscAnswer, oscAfter}
+use Rattle.rules.specs.Osc.{framingBad, oscAnswer, oscAfter}
 use Rattle.rules.specs.Records.{Field, blockSound, deciding, recordIn, registersBad, newValues}
 use Rattle.rules.specs.declared.Bridge.{Bridge}
 use Rattle.rules.specs.declared.BridgeNumber.{BridgeNumber}
 use Rattle.rules.specs.declared.SessionNumber.{SessionNumber}
 use Rattle.rules.specs.declared.Table.{Table}
 
--- what is asked of one bridge, with the other numbers and the bytes lent
+-- what a call asks of the one bridge that it names
 pub data Operation : Type 0 where
   osc : (revision count : ℕ) (uuid capabilities answer : List ℕ) → Operation
   reset : Operation
@@ -47,25 +47,34 @@ pub record Outcome : Type 0 where
 abbrev pub outcome : ℕ → Result → List (List ℕ) → Outcome
 outcome k r l = record { number = k; result = r; left = l }
 
--- ---- an operation on bridge n of a table with `count` bridges, by session s; b is the bridge's row
+-- ---- an operation by session s on bridge n, whose row is b, of a table with so many bridges
 
--- the numbers that a call checks, in its order
-abbrev pub refusals : (count : ℕ) → SessionNumber → BridgeNumber → Bridge → Operation → List Refusal
-refusals count s n b (osc revision dwords uuid caps answer) =
-    (1 if leb count (n .0)) ∷ (2 if not (owns s b)) ∷ (3 if not (framed dwords uuid caps answer)) ∷ []
-refusals count s n b reset = (1 if leb count (n .0)) ∷ (2 if not (owns s b)) ∷ []
-refusals count s n b report = (1 if leb count (n .0)) ∷ (2 if not (owns s b)) ∷ []
-refusals count s n b (address bus device function offset width) =
-    (1 if leb count (n .0)) ∷ (2 if not (owns s b)) ∷ (5 if placeBad device function offset width) ∷ (4 if busOutside b bus) ∷ []
-refusals count s n b (registerValues slot block current) =
-    (1 if leb count (n .0))
-    ∷ (2 if not (owns s b))
+-- 1: "the bridge number is not in the table"
+abbrev pub absent : (bridges : ℕ) → BridgeNumber → Bool
+absent bridges n = leb bridges (n .0)
+
+-- 2: "the bridge's owner is not the calling session"
+abbrev pub foreign : SessionNumber → Bridge → Bool
+foreign s b = not (owns s b)
+
+-- "A call checks only the numbers listed for it, in this order"
+abbrev pub refusals : (bridges : ℕ) → SessionNumber → BridgeNumber → Bridge → Operation → List Refusal
+refusals bridges s n b (osc revision count uuid caps answer) =
+    (1 if absent bridges n) ∷ (2 if foreign s b) ∷ (3 if framingBad count uuid caps answer) ∷ []
+refusals bridges s n b reset = (1 if absent bridges n) ∷ (2 if foreign s b) ∷ []
+refusals bridges s n b report = (1 if absent bridges n) ∷ (2 if foreign s b) ∷ []
+refusals bridges s n b (address bus device function offset width) =
+    (1 if absent bridges n) ∷ (2 if foreign s b) ∷ (5 if placeBad device function offset width) ∷ (4 if busOutside b bus) ∷ []
+refusals bridges s n b (registerValues slot block current) =
+    (1 if absent bridges n)
+    ∷ (2 if foreign s b)
     ∷ (11 if not (bit (b .held) 0))
     ∷ (10 if registersBad current)
     ∷ (8 if not (blockSound (deciding slot block)))
     ∷ (9 if isNone (recordIn (deciding slot block) 2))
     ∷ []
 
+-- "The type 2 record is used"; without one the call is refused
 abbrev pub valuesBy : Bridge → List ℕ → List ℕ → Option Field → List ℕ
 valuesBy b l current none = replicate 8 0
 valuesBy b l current (some f) = newValues (bit (b .held) 3) l f 0 current
@@ -80,7 +89,7 @@ accepted b (registerValues slot block current) =
     let l = deciding slot block in
     outcome 0 (values (valuesBy b l current (recordIn l 2))) (slot ∷ block ∷ current ∷ [])
 
--- "A refused call hands back zeros": the result of its kind
+-- the zeros of each kind of result
 abbrev pub zeros : Operation → Result
 zeros (osc revision count uuid caps answer) = nothing
 zeros reset = nothing
@@ -104,10 +113,11 @@ after b report = holding b
 after b (address bus device function offset width) = holding b
 after b (registerValues slot block current) = holding b
 
-abbrev pub numberAt : (count : ℕ) → SessionNumber → BridgeNumber → Bridge → Operation → ℕ
-numberAt count s n b o = firstOf (refusals count s n b o)
+-- a call "gives the first that applies"
+abbrev pub numberAt : (bridges : ℕ) → SessionNumber → BridgeNumber → Bridge → Operation → ℕ
+numberAt bridges s n b o = firstOf (refusals bridges s n b o)
 
--- by the number: 0 does the operation, any other changes nothing
+-- by the number: 0 does the operation; any other "hands back zeros beside its number and changes nothing"
 abbrev pub outcomeBy : ℕ → Bridge → Operation → Outcome
 outcomeBy zero b o = accepted b o
 outcomeBy (suc k) b o = outcome (suc k) (zeros o) (lent o)
@@ -116,11 +126,13 @@ abbrev pub bridgeBy : ℕ → Bridge → Operation → Bridge
 bridgeBy zero b o = withHolding b (after b o)
 bridgeBy (suc k) b o = b
 
--- ---- locate: "it lies in no bridge of this session" is 4, and no other number is checked
+-- ---- locate
 
+-- the bridge of this session whose window has the address
 abbrev pub windowOf : Table → SessionNumber → ℕ → Option ℕ
 windowOf t s a = find (ownWindow s a) (bridgesOf t) 0
 
+-- "Back 4 only": "reading an address back, it lies in no bridge of this session"
 abbrev pub locateRefusals : Table → SessionNumber → ℕ → List Refusal
 locateRefusals t s a = (4 if isNone (windowOf t s a)) ∷ []
 
@@ -179,6 +191,7 @@ abbrev pub sessionOf : Call → SessionNumber
 sessionOf (on s n o) = s
 sessionOf (locate s a) = s
 
+-- the call carries this session number
 abbrev pub isUnder : SessionNumber → Call → Bool
 isUnder s c = eqb (sessionOf c .0) (s .0)
 

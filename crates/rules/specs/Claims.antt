@@ -1,4 +1,5 @@
--- The claims: each one closed statement, for every MCFG byte string and every list of rows, refused starts included.
+-- The claims: each one closed statement, for every MCFG byte string and every list of rows, refused starts included. Document 01's demands
+-- are demand 1 (exact refusals), demand 2 (the history) and demand 3 (separation).
 use mathlib.Core.Path.{_≡_}
 use mathlib.Core.Logic.{_↔_, _⊎_}
 use mathlib.Core.Bool.{Bool, true, false}
@@ -10,13 +11,13 @@ use lib.ListN.{length, getD}
 use Rattle.rules.specs.Lists.{every, pairwise}
 use Rattle.rules.specs.Numbers.{byte, word, dword, bit}
 use Rattle.rules.specs.Refusals.{GivenBy}
-use Rattle.rules.specs.Tables.{holding, cleared, owns, bridgeAt}
+use Rattle.rules.specs.Tables.{Holding, holding, cleared, owns, bridgeAt}
 use Rattle.rules.specs.Place.{Place, InReach}
 use Rattle.rules.specs.Start.{StartInput, startRefusals, startNumber, startTable, tableOf, Sound}
 use Rattle.rules.specs.Osc.{grantedBit, granted, uuidBytes, status, query, control}
 use Rattle.rules.specs.Records.{deciding, Found, recordRefusals, findRecord}
 use Rattle.rules.specs.Calls.{osc, reset, address, Call, on, locate, Result, addressed, located, Outcome, outcome, step, listed, zerosOf, lentTo, tableAfter, sessionOf, callsOf, outcomesOf, widthOf}
-use Rattle.rules.specs.History.{history, reaches, takesOrResets}
+use Rattle.rules.specs.History.{reaches, historyStep, history}
 use Rattle.rules.specs.declared.Bridge.{Bridge}
 use Rattle.rules.specs.declared.BridgeNumber.{BridgeNumber}
 use Rattle.rules.specs.declared.SessionNumber.{SessionNumber}
@@ -149,10 +150,10 @@ rightCall s n b = on s n (osc 1 3 uuidBytes (b .caps) (b .answer))
 abbrev pub answerOf : Outcome → List ℕ
 answerOf o = getD (o .left) 2 []
 
--- "no other taking call or reset reaches that bridge"
+-- "no other taking call or reset reaches that bridge": no call of the list adds to or clears what the bridge holds, whatever that is
 abbrev pub Undisturbed : Table → ℕ → List Call → Type 0
 Undisturbed t i [] = Unit {0}
-Undisturbed t i (c ∷ l) = (takesOrResets t i c ≡ false) × Undisturbed t i l
+Undisturbed t i (c ∷ l) = ((h : Holding) → historyStep t i h c ≡ h) × Undisturbed t i l
 
 -- "two queries and a taking call" to bridge n of s from the table t on, with the calls l and m between the three
 module _ (t : Table) (s : SessionNumber) (n : BridgeNumber) (first second taking : Buffers) (l m : List Call) where
@@ -162,9 +163,6 @@ module _ (t : Table) (s : SessionNumber) (n : BridgeNumber) (first second taking
   abbrev pub atTaking : Table
   atTaking = tableAfter atSecond (rightCall s n second ∷ m)
 
-  abbrev pub firstOutcome : Outcome
-  firstOutcome = step t (rightCall s n first) .outcome
-
   abbrev pub secondOutcome : Outcome
   secondOutcome = step atSecond (rightCall s n second) .outcome
 
@@ -173,7 +171,7 @@ module _ (t : Table) (s : SessionNumber) (n : BridgeNumber) (first second taking
 
   -- the control DWORD returned by the first query
   abbrev pub returned : ℕ
-  returned = control (answerOf firstOutcome)
+  returned = control (answerOf (step t (rightCall s n first) .outcome))
 
   -- "The second answer is never masked, and the taking call grants exactly those bits", which are then held
   pub record Negotiated : Type 0 where

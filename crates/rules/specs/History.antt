@@ -1,23 +1,24 @@
--- What the list gives: what a bridge must hold after a list of calls; of the starting table only owners, permitted bits and the number of bridges are read.
+-- Document 01, "Proof of the pudding": "The list gives what they must be". Of the starting table only the number of bridges,
+-- owners and permitted bits are read.
 use Prim.Native.Nat.{ℕ}
-use mathlib.Core.Bool.{Bool, false, not, cond, _&&_}
+use mathlib.Core.Bool.{Bool, not, cond, _&&_}
 use mathlib.Core.List.{List, [], _∷_}
-use lib.Dec.{eqb, leb}
-use Rattle.rules.specs.Tables.{Holding, nothingHeld, withHolding, owns, bridgeAt}
-use Rattle.rules.specs.Osc.{framed, recognised, query, joined}
-use Rattle.rules.specs.Calls.{Call, on, locate, osc, reset, report, address, registerValues}
+use lib.Dec.{eqb}
+use Rattle.rules.specs.Tables.{Holding, nothingHeld, withHolding, bridgeAt}
+use Rattle.rules.specs.Osc.{framingBad, recognised, query, joined}
+use Rattle.rules.specs.Calls.{absent, foreign, Call, on, locate, osc, reset, report, address, registerValues}
 use Rattle.rules.specs.declared.BridgeNumber.{BridgeNumber}
 use Rattle.rules.specs.declared.SessionNumber.{SessionNumber}
 use Rattle.rules.specs.declared.Table.{Table}
 
 -- the call names bridge i, and meets neither 1 nor 2
 abbrev pub reaches : Table → ℕ → SessionNumber → BridgeNumber → Bool
-reaches t i s n = eqb (n .0) i && (not (leb (t .count) (n .0)) && owns s (bridgeAt t (n .0)))
+reaches t i s n = eqb (n .0) i && (not (absent (t .count) n) && not (foreign s (bridgeAt t (n .0))))
 
 -- a taking call: "names the bridge, meets none of 1, 2 and 3, and has the right UUID, revision 1, Count 3 and no query flag"
 abbrev pub takes : Table → ℕ → SessionNumber → BridgeNumber → (revision count : ℕ) (uuid caps answer : List ℕ) → Bool
 takes t i s n revision count uuid caps answer =
-    reaches t i s n && framed count uuid caps answer && (recognised revision count uuid && not (query caps))
+    reaches t i s n && not (framingBad count uuid caps answer) && (recognised revision count uuid && not (query caps))
 
 -- what bridge i holds after one more call, where it held h
 abbrev pub historyStep : Table → ℕ → Holding → Call → Holding
@@ -36,12 +37,3 @@ historyFrom t i h (c ∷ l) = historyFrom t i (historyStep t i h c) l
 -- "both are 0 at start"
 abbrev pub history : Table → ℕ → List Call → Holding
 history t i l = historyFrom t i nothingHeld l
-
--- the call takes for bridge i, or resets it
-abbrev pub takesOrResets : Table → ℕ → Call → Bool
-takesOrResets t i (on s n (osc revision count uuid caps answer)) = takes t i s n revision count uuid caps answer
-takesOrResets t i (on s n reset) = reaches t i s n
-takesOrResets t i (on s n report) = false
-takesOrResets t i (on s n (address bus device function offset width)) = false
-takesOrResets t i (on s n (registerValues slot block current)) = false
-takesOrResets t i (locate s a) = false

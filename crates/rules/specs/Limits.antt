@@ -1,4 +1,4 @@
--- The limits of document 01, each named once; proofs never compute with them.
+-- Document 01, "The MCFG table and the starting list" and "Record blocks and register values": the limits, each named once.
 use Prim.Native.Nat.{ℕ}
 
 -- "0 to 16 rows"

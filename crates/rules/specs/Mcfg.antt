@@ -1,4 +1,4 @@
--- The MCFG table: "little-endian: the four letters `MCFG` at 0, total length (4 bytes) at 4, revision at 8, .."
+-- Document 01, "The MCFG table and the starting list": the MCFG table, little-endian.
 use Prim.Native.Nat.{ℕ, zero, suc, _+_, _-_, _*_, _/_, _%_, _^_}
 use mathlib.Core.Bool.{Bool, not, _&&_, _||_}
 use mathlib.Core.List.{List, [], _∷_}
@@ -15,6 +15,7 @@ pub record Entry : Type 0 where
   pub startBus : ℕ
   pub endBus : ℕ
 
+-- the entry at byte i
 abbrev pub entryAt : List ℕ → ℕ → Entry
 entryAt m i = record { base = qword m i; segment = word m (8 + i); startBus = byte m (10 + i); endBus = byte m (11 + i) }
 
@@ -26,7 +27,7 @@ entriesFrom (suc n) m i = entryAt m i ∷ entriesFrom n m (16 + i)
 unfoldable pub entries : List ℕ → List Entry
 entries m = entriesFrom ((length m - 44) / 16) m 44
 
--- where a bus starts in the address window of a base, and where it ends; "the base belongs to bus 0"
+-- the first byte of a bus in the window of a base, and the byte after its last
 abbrev pub busStart : ℕ → ℕ → ℕ
 busStart base bus = base + bus * 2 ^ 20
 
@@ -37,24 +38,28 @@ busEnd base bus = base + (bus + 1) * 2 ^ 20
 abbrev pub busesApart : ℕ → ℕ → ℕ → ℕ → Bool
 busesApart first last first′ last′ = ltb last first′ || ltb last′ first
 
+-- "entries of one segment share no bus"
 abbrev pub shareNoBus : Entry → Entry → Bool
 shareNoBus e f = not (eqb (e .segment) (f .segment)) || busesApart (e .startBus) (e .endBus) (f .startBus) (f .endBus)
 
+-- "the address windows .. share no byte between any two entries"
 abbrev pub shareNoByte : Entry → Entry → Bool
 shareNoByte e f =
     leb (busEnd (e .base) (e .endBus)) (busStart (f .base) (f .startBus))
     || leb (busEnd (f .base) (f .endBus)) (busStart (e .base) (e .startBus))
 
+-- "the four letters `MCFG` at 0"
 abbrev pub signature : List ℕ
 signature = 0x4D ∷ 0x43 ∷ 0x46 ∷ 0x47 ∷ []
 
+-- what is sound of one entry
 abbrev pub entrySound : Entry → Bool
 entrySound e =
     leb (e .startBus) (e .endBus)  -- start not above end
     && eqb (e .base % 2 ^ 20) 0  -- base a multiple of 2^20
     && leb (busEnd (e .base) (e .endBus)) (2 ^ 64)  -- base + (end + 1) x 2^20 at most 2^64
 
--- "Sound means", condition by condition
+-- "Sound means"
 unfoldable pub mcfgSound : List ℕ → Bool
 mcfgSound m =
     sameBytes (take 4 m) signature  -- the four letters are there
@@ -65,5 +70,5 @@ mcfgSound m =
     && eqb ((length m - 44) % 16) 0  -- whole entries
     && leb (length (entries m)) maxEntries  -- 0 to 16 of them
     && every entrySound (entries m)
-    && pairwise shareNoBus (entries m)  -- entries of one segment share no bus
-    && pairwise shareNoByte (entries m)  -- the address windows share no byte between any two entries
+    && pairwise shareNoBus (entries m)
+    && pairwise shareNoByte (entries m)

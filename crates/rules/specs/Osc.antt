@@ -1,15 +1,15 @@
--- Granting control: _OSC framing, the granting rule, the answer, and what a call adds.
-use Prim.Native.Nat.{ℕ, _+_, _-_, _*_, _^_}
+-- Document 01, "Granting control": the granting rule, _OSC framing, the answer, and what a call adds.
+use Prim.Native.Nat.{ℕ, _-_, _*_}
 use mathlib.Core.Bool.{Bool, not, cond, _&&_, _||_}
 use mathlib.Core.List.{List, [], _∷_, _++_}
 use lib.Bits.{bitAnd, bitOr}
-use lib.Dec.{eqb, leb, ltb}
+use lib.Dec.{eqb, ltb}
 use lib.ListN.{length, getD, replicate}
 use Rattle.rules.specs.Numbers.{dword, le32, sameBytes, bit, within, number}
 use Rattle.rules.specs.Tables.{Holding, holding}
 use Rattle.rules.specs.declared.Bridge.{Bridge}
 
--- the control bits from 0 up, each as the set of control bits that it needs
+-- the control bits from 0 up, each with the set of control bits that it needs
 abbrev pub controlNeeds : List ℕ
 controlNeeds =
     0x10  -- 0 Express hot plug
@@ -19,7 +19,7 @@ controlNeeds =
     ∷ 0  -- 4 Express capability structure
     ∷ []
 
--- control bits 0 to 4; support bits 0 to 4
+-- "control (0 Express hot plug, .., 4 Express capability structure)"; "support (bits 0 to 4 known)"
 abbrev pub knownControl : ℕ
 knownControl = 0x1F
 
@@ -37,7 +37,7 @@ grantedBit b support requested i =
     bit requested i && bit knownControl i
     && (bit (b .held) i || (bit (b .permitted) i && within (getD controlNeeds i 0) (available b requested)))
 
--- the granted bits of the 32
+-- the granted bits of the 32 of the control DWORD
 unfoldable pub granted : Bridge → (support requested : ℕ) → ℕ
 granted b support requested = number 32 (grantedBit b support requested)
 
@@ -45,17 +45,18 @@ granted b support requested = number 32 (grantedBit b support requested)
 abbrev pub grantStatus : (requested granted : ℕ) → ℕ
 grantStatus r g = cond (within r g) 0 0x10
 
--- the UUID as it stands in the buffer
+-- the UUID as it "stands in the buffer"
 abbrev pub uuidBytes : List ℕ
 uuidBytes = 0x5B ∷ 0x4D ∷ 0xDB ∷ 0x33 ∷ 0xF7 ∷ 0x1F ∷ 0x1C ∷ 0x40 ∷ 0x96 ∷ 0x57 ∷ 0x74 ∷ 0x41 ∷ 0xC0 ∷ 0x3D ∷ 0xD7 ∷ 0x66 ∷ []
 
--- none of the conditions of refusal 3
-unfoldable pub framed : ℕ → (uuid caps answer : List ℕ) → Bool
-framed count uuid caps answer =
-    eqb (length uuid) 16
-    && not (eqb count 0 || ltb 8 count)
-    && eqb (length caps) (4 * count)
-    && eqb (length answer) (4 * count)
+-- refusal 3: "UUID not 16 bytes, Count 0 or above 8, capability length or answer length not 4 x Count"
+unfoldable pub framingBad : (count : ℕ) (uuid caps answer : List ℕ) → Bool
+framingBad count uuid caps answer =
+    not (eqb (length uuid) 16)
+    || eqb count 0
+    || ltb 8 count
+    || not (eqb (length caps) (4 * count))
+    || not (eqb (length answer) (4 * count))
 
 -- "has the right UUID, revision 1, Count 3"
 unfoldable pub recognised : (revision count : ℕ) (uuid : List ℕ) → Bool
@@ -65,7 +66,7 @@ recognised revision count uuid = sameBytes uuid uuidBytes && eqb revision 1 && e
 abbrev pub errorStatus : (revision : ℕ) (uuid : List ℕ) → ℕ
 errorStatus revision uuid = cond (not (sameBytes uuid uuidBytes)) 0x04 (cond (not (eqb revision 1)) 0x08 0x02)
 
--- the capability DWORDs: status with the query flag in bit 0, support, control
+-- "Capability DWORDs are little-endian: first status, with bit 0 the query flag on input; second support; third control"
 abbrev pub status : List ℕ → ℕ
 status caps = dword caps 0
 
@@ -78,7 +79,7 @@ support caps = dword caps 4
 abbrev pub control : List ℕ → ℕ
 control caps = dword caps 8
 
--- the answer buffer: "in these three all later DWORDs are 0"; otherwise status, support as it came, granted bits
+-- the answer buffer: status, "the support DWORD as it came; the granted bits"; with an error status "all later DWORDs are 0"
 unfoldable pub oscAnswer : Bridge → (revision count : ℕ) (uuid caps : List ℕ) → List ℕ
 oscAnswer b revision count uuid caps =
     let g = granted b (support caps) (control caps) in

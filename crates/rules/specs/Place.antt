@@ -1,4 +1,4 @@
--- Place and address: "Address = base + bus x 2^20 + device x 2^15 + function x 2^12 + offset".
+-- Document 01, "Place and address".
 use Prim.Native.Nat.{ℕ, _+_, _-_, _*_, _/_, _%_, _^_, _≤_, _<_}
 use mathlib.Core.Bool.{Bool, not, _&&_, _||_}
 use lib.Dec.{eqb, leb, ltb}
@@ -8,6 +8,7 @@ use Rattle.rules.specs.declared.Bridge.{Bridge}
 use Rattle.rules.specs.declared.BridgeNumber.{BridgeNumber}
 use Rattle.rules.specs.declared.SessionNumber.{SessionNumber}
 
+-- a place: "bridge, bus, device, function and offset"
 pub record Place : Type 0 where
   pub bridge : BridgeNumber
   pub bus : ℕ
@@ -15,11 +16,11 @@ pub record Place : Type 0 where
   pub function : ℕ
   pub offset : ℕ
 
--- "The base belongs to bus 0 whatever the start bus is"
+-- "Address = base + bus x 2^20 + device x 2^15 + function x 2^12 + offset"; the base belongs to bus 0
 abbrev pub addressOf : Bridge → (bus device function offset : ℕ) → ℕ
 addressOf b bus device function offset = b .base + bus * 2 ^ 20 + device * 2 ^ 15 + function * 2 ^ 12 + offset
 
--- refusal 5
+-- refusal 5: "device above 31, function above 7, offset above 4095, width not 1, 2 or 4, or offset not a multiple of width"
 abbrev pub placeBad : (device function offset width : ℕ) → Bool
 placeBad device function offset width =
     ltb 31 device
@@ -28,7 +29,7 @@ placeBad device function offset width =
     || not (eqb width 1 || eqb width 2 || eqb width 4)
     || not (eqb (offset % width) 0)
 
--- refusal 4: the bus is outside the bridge's buses
+-- refusal 4: "the bus is outside the bridge's buses"
 abbrev pub busOutside : Bridge → ℕ → Bool
 busOutside b bus = ltb bus (b .«first_bus») || ltb (b .«last_bus») bus
 
@@ -36,7 +37,7 @@ busOutside b bus = ltb bus (b .«first_bus») || ltb (b .«last_bus») bus
 abbrev pub inWindow : ℕ → Bridge → Bool
 inWindow a b = leb (busStart (b .base) (b .«first_bus»)) a && ltb a (busEnd (b .base) (b .«last_bus»))
 
--- the address lies in this bridge, and the bridge is of this session
+-- the address lies in this bridge, which is of this session
 abbrev pub ownWindow : SessionNumber → ℕ → Bridge → Bool
 ownWindow s a b = owns s b && inWindow a b
 

@@ -1,6 +1,6 @@
--- _HPX setting records: record blocks, the record search, register values.
+-- Document 01, "Record blocks and register values": _HPX setting records, the record search, register values.
 use Prim.Native.Nat.{ℕ, zero, suc, _+_, _*_, _%_}
-use mathlib.Core.Bool.{Bool, true, false, not, cond, _&&_, _||_}
+use mathlib.Core.Bool.{Bool, false, not, cond, _&&_, _||_}
 use mathlib.Core.List.{List, [], _∷_}
 use mathlib.Core.Option.{Option, none, some}
 use lib.Bits.{bitAnd, bitOr}
@@ -17,6 +17,7 @@ pub record Field : Type 0 where
   pub tag : ℕ
   pub size : ℕ
 
+-- the field at byte i
 abbrev pub fieldAt : List ℕ → ℕ → Field
 fieldAt l i = record { start = i; tag = byte l i; size = word l (1 + i) }
 
@@ -57,6 +58,7 @@ valuesSound l f (suc (suc n)) =
     leb (value l f 9) 65535 && leb (value l f 10) 65535  -- Device Control
     && leb (value l f 11) 65535 && leb (value l f 12) 65535  -- Link Control
 
+-- what is sound of one field
 abbrev pub fieldSound : List ℕ → Field → Bool
 fieldSound l f =
     ltb 2 (f .tag)  -- tags above 2 are skipped whatever their value
@@ -68,10 +70,12 @@ fieldSound l f =
 abbrev pub notTwice : List ℕ → Field → Field → Bool
 notTwice l f g = not (isRecord l f && isRecord l g && eqb (f .tag) (g .tag))
 
+-- the walk came to the end, and the fields are sound
 abbrev pub soundFields : List ℕ → Option (List Field) → Bool
 soundFields l none = false
 soundFields l (some r) = every (fieldSound l) r && pairwise (notTwice l) r
 
+-- "A block is 0 to 1024 bytes of fields to its very end"
 unfoldable pub blockSound : List ℕ → Bool
 blockSound l = leb (length l) maxBlock && soundFields l (fieldsOf l)
 
@@ -95,7 +99,7 @@ pub record Found : Type 0 where
   pub start : ℕ
   pub size : ℕ
 
--- record search checks 8, 9
+-- "Record search 8, 9"
 abbrev pub recordRefusals : (slot block : List ℕ) (type : ℕ) → List Refusal
 recordRefusals slot block type =
     (8 if not (blockSound (deciding slot block)))

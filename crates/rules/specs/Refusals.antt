@@ -1,4 +1,4 @@
--- Refusal numbers: a call "gives the first that applies", in its listed order.
+-- Document 01, "Refusal numbers": a call "gives the first that applies" of the numbers listed for it.
 use mathlib.Core.Bool.{Bool, true, false}
 use mathlib.Core.List.{List, [], _∷_}
 use Prim.Native.Nat.{ℕ}

@@ -1,10 +1,10 @@
--- The starting list, and the table that start hands back, refused or not.
+-- Document 01, "The MCFG table and the starting list": the starting list, start, and what a call may require of its table.
 use Prim.Native.Nat.{ℕ, zero, suc, _^_, _≤_, _<_}
 use mathlib.Core.Path.{_≡_}
 use mathlib.Core.Bool.{Bool, true, not, _&&_, _||_}
 use mathlib.Core.List.{List, [], _∷_, map}
 use mathlib.Core.Option.{Option, none, some}
-use lib.Dec.{eqb, leb, ltb}
+use lib.Dec.{eqb, leb}
 use lib.ListN.{length}
 use Rattle.rules.specs.Limits.{maxRows, maxOwner}
 use Rattle.rules.specs.Lists.{every, pairwise, padded, first, isNone}
@@ -25,10 +25,11 @@ pub record StartInput : Type 0 where
   pub mcfg : List ℕ
   pub rows : List BridgeRow
 
--- the row's buses lie inside the entry, which is of its segment
+-- "the row's buses lie inside one MCFG entry of its segment": this one
 abbrev pub inside : BridgeRow → Entry → Bool
 inside r e = eqb (r .segment) (e .segment) && leb (e .startBus) (r .«first_bus») && leb (r .«last_bus») (e .endBus)
 
+-- the entry that the row lies inside
 abbrev pub entryOf : List Entry → BridgeRow → Option Entry
 entryOf es r = first (inside r) es
 
@@ -41,6 +42,7 @@ abbrev pub permissible : BridgeKind → ℕ
 permissible Express = knownControl
 permissible Conventional = 0x02
 
+-- what is sound of one row
 abbrev pub rowSound : List Entry → BridgeRow → Bool
 rowSound es r =
     leb (r .owner .0) maxOwner  -- owner not above 15
@@ -49,16 +51,18 @@ rowSound es r =
     && within (r .permitted) knownControl  -- no permitted bit above 4
     && within (r .permitted) (permissible (r .kind))  -- a conventional row permits no bit but 1
 
+-- "two rows of one segment share no bus"
 abbrev pub rowsApart : BridgeRow → BridgeRow → Bool
 rowsApart r q = not (eqb (r .segment) (q .segment)) || busesApart (r .«first_bus») (r .«last_bus») (q .«first_bus») (q .«last_bus»)
 
+-- "Sound means"
 unfoldable pub rowsSound : List Entry → List BridgeRow → Bool
 rowsSound es rows =
     leb (length rows) maxRows  -- 0 to 16 rows
     && every (rowSound es) rows
-    && pairwise rowsApart rows  -- two rows of one segment share no bus
+    && pairwise rowsApart rows
 
--- start checks 6, 7
+-- "start 6, 7"
 abbrev pub startRefusals : StartInput → List Refusal
 startRefusals x = (6 if not (mcfgSound (x .mcfg))) ∷ (7 if not (rowsSound (entries (x .mcfg)) (x .rows))) ∷ []
 
@@ -90,7 +94,7 @@ startBy (suc k) x = tableOf []
 unfoldable pub startTable : StartInput → Table
 startTable x = startBy (startNumber x) x
 
--- what start and every call leave: all that a call may require of its table
+-- "a call may require of its table what start and every call are shown to leave": the array, the windows apart, none above 2^64
 pub record Sound (t : Table) : Type 0 where
   pub full-length : length (t .bridges) ≡ maxRows
   pub few : t .count ≤ maxRows

@@ -1,4 +1,4 @@
--- The table of host bridges: its rows, their owners, and what a bridge holds.
+-- Document 01, "What the service does" and "Proof of the pudding": the table of host bridges, owners, and what a bridge holds.
 use Prim.Native.Nat.{ℕ}
 use mathlib.Core.Bool.{Bool}
 use mathlib.Core.List.{List, map}
