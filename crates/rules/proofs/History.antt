@@ -13,9 +13,9 @@ use Rattle.rules.specs.Numbers.{bit}
 use Rattle.rules.specs.Refusals.{_if_, firstOf}
 use Rattle.rules.specs.Tables.{Holding, holding, withHolding, noBridge, bridgeAt, withBridge, fixed}
 use Rattle.rules.specs.Start.{Sound}
-use Rattle.rules.specs.Osc.{support, control, granted, framingBad, recognised, query, joined, oscAfter}
+use Rattle.rules.specs.Osc.{support, control, granted, framingBad, recognised, query, oscAfter}
 use Rattle.rules.specs.Calls.{Operation, absent, foreign, osc, reset, report, address, registerValues, Call, on, locate, after, numberAt, bridgeBy, step, tableAfter}
-use Rattle.rules.specs.History.{reaches, takes, historyStep, historyFrom}
+use Rattle.rules.specs.History.{reaches, takes, added, historyStep, historyFrom}
 use Rattle.rules.specs.Claims.{Undisturbed}
 use Rattle.rules.specs.declared.BridgeNumber.{BridgeNumber}
 use Rattle.rules.specs.declared.SessionNumber.{SessionNumber}
@@ -76,7 +76,7 @@ history-next u i (on s n (osc revision count uuid caps answer)) h =
     holding-by (numberAt (u .count) s n b o) u (n .0) i o h
     ∙ rw (none-of-1-2-3 (absent (u .count) n) (foreign s b) (framingBad count uuid caps answer))
     (cond-cond (eqb (n .0) i) (not (absent (u .count) n)) (not (foreign s b)) (not (framingBad count uuid caps answer)) (recognised revision count uuid && not (query caps))
-    (joined (bridgeAt u i) caps) (holding (bridgeAt u i)))
+    (added (bridgeAt u i) caps) (holding (bridgeAt u i)))
 history-next u i (on s n reset) h =
     holding-by (numberAt (u .count) s n (bridgeAt u (n .0)) reset) u (n .0) i reset h
     ∙ rw (none-of-1-2 (absent (u .count) n) (foreign s (bridgeAt u (n .0))))
@@ -125,7 +125,7 @@ kept-bit t i j h (on s n (osc revision count uuid caps answer)) e r = go (takes 
     g : ℕ
     g = granted (withHolding (bridgeAt t i) h) (support caps) (control caps)
 
-    go : (q : Bool) → bit (cond q (joined (withHolding (bridgeAt t i) h) caps) h .held) j ≡ true
+    go : (q : Bool) → bit (cond q (added (withHolding (bridgeAt t i) h) caps) h .held) j ≡ true
     go true = bit-or (h .held) g j ∙ or-left (bit (h .held) j) (bit g j) e
     go false = e
 kept-bit t i j h (on s n reset) e r = rw (r s n refl) e

@@ -42,7 +42,7 @@ starting m rows = record { mcfg = m; rows = rows }
 
 -- a class bridge of session 3 and a plant bridge of session 5
 abbrev pub lesson : StartInput
-lesson = starting oneEntry (row Express 3 0 15 0x1F ∷ row Express 5 16 31 0x1F ∷ [])
+lesson = starting oneEntry (row Express 3 0 15 0x1F ∷ row Express 5 128 159 0x1F ∷ [])
 
 -- n rows of one bus each
 abbrev pub oneBusRows : ℕ → List BridgeRow
@@ -61,8 +61,8 @@ starts =
     -- a reserved byte, with the sum and without it
     ∷ (startNumber (starting (set (set oneEntry 36 1) 9 0xC6) []) gives 0)
     ∷ (startNumber (starting (set oneEntry 36 1) []) gives 6)
-    -- rows that share bus 15; owner 16; permitted bit 5; a conventional row; 16 and 17 rows
-    ∷ (startNumber (starting oneEntry (row Express 3 0 15 0x1F ∷ row Express 5 15 31 0x1F ∷ [])) gives 7)
+    -- the first and the last row share bus 15; owner 16; permitted bit 5; a conventional row; 16 and 17 rows
+    ∷ (startNumber (starting oneEntry (row Express 3 0 15 0x1F ∷ row Express 5 16 31 0x1F ∷ row Express 5 15 15 0x1F ∷ [])) gives 7)
     ∷ (startNumber (starting oneEntry (row Express 16 0 15 0x1F ∷ [])) gives 7)
     ∷ (startNumber (starting oneEntry (row Express 3 0 15 0x20 ∷ [])) gives 7)
     ∷ (startNumber (starting oneEntry (row Conventional 3 0 15 0x12 ∷ [])) gives 7)
@@ -124,7 +124,7 @@ calls =
     ∷ on class (bridge 0) report
     ∷ on class (bridge 0) (address 1 2 3 0x10 4)
     ∷ on class (bridge 0) (address 15 31 7 4095 1)
-    ∷ on plant (bridge 1) (address 16 0 0 0 4)
+    ∷ on plant (bridge 1) (address 128 0 0 0 4)
     ∷ on class (bridge 0) (address 16 32 0 0 4)
     ∷ on class (bridge 0) (address 16 0 0 0 4)
     ∷ locate class 0xE0113010
@@ -154,7 +154,7 @@ run =
     ∷ outcome 0 (reported (record { held = 0x1F; supported = 0x1F })) []
     ∷ outcome 0 (addressed 0xE0113010) []
     ∷ outcome 0 (addressed 0xE0FFFFFF) []
-    ∷ outcome 0 (addressed 0xE1000000) []
+    ∷ outcome 0 (addressed 0xE8000000) []
     ∷ outcome 5 (addressed 0) []
     ∷ outcome 4 (addressed 0) []
     ∷ outcome 0 (located (record { bridge = bridge 0; bus = 1; device = 2; function = 3; offset = 0x10 })) []

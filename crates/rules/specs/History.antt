@@ -3,10 +3,12 @@
 use Prim.Native.Nat.{ℕ}
 use mathlib.Core.Bool.{Bool, not, cond, _&&_}
 use mathlib.Core.List.{List, [], _∷_}
+use lib.Bits.{bitAnd, bitOr}
 use lib.Dec.{eqb}
 use Rattle.rules.specs.Tables.{Holding, nothingHeld, withHolding, bridgeAt}
-use Rattle.rules.specs.Osc.{framingBad, recognised, query, joined}
+use Rattle.rules.specs.Osc.{knownSupport, granted, framingBad, recognised, query, support, control}
 use Rattle.rules.specs.Calls.{absent, foreign, Call, on, locate, osc, reset, report, address, registerValues}
+use Rattle.rules.specs.declared.Bridge.{Bridge}
 use Rattle.rules.specs.declared.BridgeNumber.{BridgeNumber}
 use Rattle.rules.specs.declared.SessionNumber.{SessionNumber}
 use Rattle.rules.specs.declared.Table.{Table}
@@ -20,10 +22,17 @@ abbrev pub takes : Table → ℕ → SessionNumber → BridgeNumber → (revisio
 takes t i s n revision count uuid caps answer =
     reaches t i s n && not (framingBad count uuid caps answer) && (recognised revision count uuid && not (query caps))
 
+-- "adds its granted bits to the held ones and its known support bits to the supported ones"
+abbrev pub added : Bridge → List ℕ → Holding
+added b caps = record {
+  held = bitOr (b .held) (granted b (support caps) (control caps));
+  supported = bitOr (b .supported) (bitAnd (support caps) knownSupport);
+}
+
 -- what bridge i holds after one more call, where it held h
 abbrev pub historyStep : Table → ℕ → Holding → Call → Holding
 historyStep t i h (on s n (osc revision count uuid caps answer)) =
-    cond (takes t i s n revision count uuid caps answer) (joined (withHolding (bridgeAt t i) h) caps) h
+    cond (takes t i s n revision count uuid caps answer) (added (withHolding (bridgeAt t i) h) caps) h
 historyStep t i h (on s n reset) = cond (reaches t i s n) nothingHeld h
 historyStep t i h (on s n report) = h
 historyStep t i h (on s n (address bus device function offset width)) = h
