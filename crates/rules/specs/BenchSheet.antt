@@ -32,15 +32,18 @@ bridgeWith p h = record { base = 0xE0000000; permitted = p; held = h; supported 
 abbrev pub numberOn : Bridge → Operation → ℕ
 numberOn b o = numberAt 1 (record { 0 = 1 }) (record { 0 = 0 }) b o
 
+-- its outcome
 abbrev pub outcomeOn : Bridge → Operation → Outcome
 outcomeOn b o = outcomeBy (numberOn b o) b o
 
+-- an _OSC call with the right UUID, revision and Count
 abbrev pub oscOn : (permitted held : ℕ) → (caps : List ℕ) → Answered
 oscOn p h caps =
     let b = bridgeWith p h in
     let o = osc 1 3 (0x5B ∷ 0x4D ∷ 0xDB ∷ 0x33 ∷ 0xF7 ∷ 0x1F ∷ 0x1C ∷ 0x40 ∷ 0x96 ∷ 0x57 ∷ 0x74 ∷ 0x41 ∷ 0xC0 ∷ 0x3D ∷ 0xD7 ∷ 0x66 ∷ []) caps (replicate 12 0xAA) in
     record { answer = answerOf (outcomeOn b o); held = bridgeBy (numberOn b o) b o .held }
 
+-- the starred lines, in order
 abbrev pub sheet : List Line
 sheet =
     -- query, DWORDs 01000000 1F000000 1F000000, P 0x1F, H 0: answer 00000000 1F000000 1F000000, H 0

@@ -44,6 +44,7 @@ pub record Outcome : Type 0 where
   pub result : Result
   pub left : List (List ℕ)
 
+-- an outcome of these three
 abbrev pub outcome : ℕ → Result → List (List ℕ) → Outcome
 outcome k r l = record { number = k; result = r; left = l }
 
@@ -122,6 +123,7 @@ abbrev pub outcomeBy : ℕ → Bridge → Operation → Outcome
 outcomeBy zero b o = accepted b o
 outcomeBy (suc k) b o = outcome (suc k) (zeros o) (lent o)
 
+-- the row after the call
 abbrev pub bridgeBy : ℕ → Bridge → Operation → Bridge
 bridgeBy zero b o = withHolding b (after b o)
 bridgeBy (suc k) b o = b
@@ -136,14 +138,17 @@ windowOf t s a = find (ownWindow s a) (bridgesOf t) 0
 abbrev pub locateRefusals : Table → SessionNumber → ℕ → List Refusal
 locateRefusals t s a = (4 if isNone (windowOf t s a)) ∷ []
 
+-- the place at the bridge found
 abbrev pub placeBy : Table → ℕ → Option ℕ → Place
 placeBy t a none = noPlace
 placeBy t a (some i) = placeOf i (bridgeAt t i) a
 
+-- by the number: the place, or zeros
 abbrev pub locateBy : ℕ → Place → Outcome
 locateBy zero p = outcome 0 (located p) []
 locateBy (suc k) p = outcome (suc k) (located noPlace) []
 
+-- locate on a table
 abbrev pub locateIn : Table → SessionNumber → ℕ → Outcome
 locateIn t s a = locateBy (firstOf (locateRefusals t s a)) (placeBy t a (windowOf t s a))
 
@@ -187,6 +192,7 @@ abbrev pub outcomes : Table → List Call → List Outcome
 outcomes t [] = []
 outcomes t (c ∷ l) = step t c .outcome ∷ outcomes (step t c .table) l
 
+-- the session number that a call carries
 abbrev pub sessionOf : Call → SessionNumber
 sessionOf (on s n o) = s
 sessionOf (locate s a) = s

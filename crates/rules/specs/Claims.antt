@@ -11,13 +11,13 @@ use lib.ListN.{length, getD}
 use Rattle.rules.specs.Lists.{every, pairwise}
 use Rattle.rules.specs.Numbers.{byte, word, dword, bit}
 use Rattle.rules.specs.Refusals.{GivenBy}
-use Rattle.rules.specs.Tables.{Holding, holding, cleared, owns, bridgeAt}
+use Rattle.rules.specs.Tables.{Holding, nothingHeld, holding, cleared, owns, bridgeAt}
 use Rattle.rules.specs.Place.{Place, InReach}
 use Rattle.rules.specs.Start.{StartInput, startRefusals, startNumber, startTable, tableOf, Sound}
 use Rattle.rules.specs.Osc.{grantedBit, granted, uuidBytes, status, query, control}
 use Rattle.rules.specs.Records.{deciding, Found, recordRefusals, findRecord}
 use Rattle.rules.specs.Calls.{osc, reset, address, Call, on, locate, Result, addressed, located, Outcome, outcome, step, listed, zerosOf, lentTo, tableAfter, sessionOf, callsOf, outcomesOf, widthOf}
-use Rattle.rules.specs.History.{reaches, historyStep, history}
+use Rattle.rules.specs.History.{reaches, historyStep, historyFrom}
 use Rattle.rules.specs.declared.Bridge.{Bridge}
 use Rattle.rules.specs.declared.BridgeNumber.{BridgeNumber}
 use Rattle.rules.specs.declared.SessionNumber.{SessionNumber}
@@ -59,17 +59,18 @@ RecordPart = (slot block : List ℕ) (type : ℕ)
 
 -- ---- what start leaves and every call keeps
 
+-- a call changes no owner, segment, bus, base or permitted bit: the row is the same but for what it holds
 abbrev pub TablesSound : Type 0
 TablesSound =
     ((x : StartInput) → Sound (startTable x))
     × ((t : Table) (c : Call) → Sound t → Sound (step t c .table))
     × ((t : Table) (c : Call) → (step t c .table .count ≡ t .count) × ((i : ℕ) → cleared (bridgeAt (step t c .table) i) ≡ cleared (bridgeAt t i)))
 
--- ---- demand 2: after any list of calls each bridge holds what the rules read off that list
+-- ---- demand 2: after any list of calls each bridge holds what the rules read off that list; "both are 0 at start"
 
 abbrev pub History : Type 0
 History = (x : StartInput) (l : List Call) (i : ℕ) → i < startTable x .count
-    → holding (bridgeAt (tableAfter (startTable x) l) i) ≡ history (startTable x) i l
+    → holding (bridgeAt (tableAfter (startTable x) l) i) ≡ historyFrom (startTable x) i nothingHeld l
 
 -- "A query changes nothing"
 abbrev pub QueriesChangeNothing : Type 0
@@ -86,6 +87,7 @@ HeldUntilReset = (x : StartInput) (l : List Call) (c : Call) (i j : ℕ)
 
 -- ---- an address leads back to its one place, a place to its one address
 
+-- the address call for a place
 abbrev pub addressCall : SessionNumber → Place → (width : ℕ) → Call
 addressCall s p width = on s (p .bridge) (address (p .bus) (p .device) (p .function) (p .offset) width)
 
@@ -130,6 +132,7 @@ pub record Separate (s : SessionNumber) (t : Table) (l m : List Call) : Type 0 w
   pub no-shared-byte : (q r : SessionNumber) → (q ≡ r → ⊥) → (a v b w : ℕ) → Given q a v t l ⊎ Given q a v t m → Given r b w t l ⊎ Given r b w t m
       → (x : ℕ) → InReach a v x → InReach b w x → ⊥
 
+-- two lists that agree on the calls of s
 abbrev pub Separation : Type 0
 Separation = (x : StartInput) (s : SessionNumber) (l m : List Call) → callsOf s l ≡ callsOf s m → Separate s (startTable x) l m
 
@@ -183,6 +186,7 @@ module _ (t : Table) (s : SessionNumber) (n : BridgeNumber) (first second taking
     pub taking-control : control (answerOf takingOutcome) ≡ returned
     pub held-after : bridgeAt (step atTaking (rightCall s n taking) .table) (n .0) .held ≡ bitOr (bridgeAt t (n .0) .held) returned
 
+-- after any list of calls, by the owner
 abbrev pub Negotiation : Type 0
 Negotiation = (x : StartInput) (before l m : List Call) (s : SessionNumber) (n : BridgeNumber) (first second taking : Buffers)
     → let t : Table = tableAfter (startTable x) before in

@@ -24,10 +24,7 @@ takes t i s n revision count uuid caps answer =
 
 -- "adds its granted bits to the held ones and its known support bits to the supported ones"
 abbrev pub added : Bridge → List ℕ → Holding
-added b caps = record {
-  held = bitOr (b .held) (granted b (support caps) (control caps));
-  supported = bitOr (b .supported) (bitAnd (support caps) knownSupport);
-}
+added b caps = record { held = bitOr (b .held) (granted b (support caps) (control caps)); supported = bitOr (b .supported) (bitAnd (support caps) knownSupport) }
 
 -- what bridge i holds after one more call, where it held h
 abbrev pub historyStep : Table → ℕ → Holding → Call → Holding
@@ -39,10 +36,7 @@ historyStep t i h (on s n (address bus device function offset width)) = h
 historyStep t i h (on s n (registerValues slot block current)) = h
 historyStep t i h (locate s a) = h
 
+-- and after a list of calls
 abbrev pub historyFrom : Table → ℕ → Holding → List Call → Holding
 historyFrom t i h [] = h
 historyFrom t i h (c ∷ l) = historyFrom t i (historyStep t i h c) l
-
--- "both are 0 at start"
-abbrev pub history : Table → ℕ → List Call → Holding
-history t i l = historyFrom t i nothingHeld l

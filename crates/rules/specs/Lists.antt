@@ -31,6 +31,7 @@ module _ {A : Type 0} where
   first p [] = none
   first p (x ∷ l) = cond (p x) (some x) (first p l)
 
+  -- nothing was found
   abbrev pub isNone : Option A → Bool
   isNone none = true
   isNone (some x) = false

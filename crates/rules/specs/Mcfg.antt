@@ -19,6 +19,7 @@ pub record Entry : Type 0 where
 abbrev pub entryAt : List ℕ → ℕ → Entry
 entryAt m i = record { base = qword m i; segment = word m (8 + i); startBus = byte m (10 + i); endBus = byte m (11 + i) }
 
+-- n entries from byte i on
 abbrev pub entriesFrom : ℕ → List ℕ → ℕ → List Entry
 entriesFrom zero m i = []
 entriesFrom (suc n) m i = entryAt m i ∷ entriesFrom n m (16 + i)

@@ -6,6 +6,7 @@ use lib.Dec.{eqb}
 use lib.ListN.{getD}
 use lib.Bits.{bitAnd}
 
+-- the byte at i
 abbrev pub byte : List ℕ → ℕ → ℕ
 byte l i = getD l i 0
 
@@ -23,6 +24,7 @@ qword l i = dword l i + dword l (4 + i) * 2 ^ 32
 abbrev pub le32 : ℕ → List ℕ
 le32 x = x % 256 ∷ x / 2 ^ 8 % 256 ∷ x / 2 ^ 16 % 256 ∷ x / 2 ^ 24 % 256 ∷ []
 
+-- all bytes added
 abbrev pub sum : List ℕ → ℕ
 sum [] = 0
 sum (x ∷ l) = x + sum l

@@ -89,10 +89,7 @@ oscAnswer b revision count uuid caps =
 
 -- "granted bits join the held ones and known support bits join the supported ones"
 abbrev pub joined : Bridge → List ℕ → Holding
-joined b caps = record {
-  held = bitOr (b .held) (granted b (support caps) (control caps));
-  supported = bitOr (b .supported) (bitAnd (support caps) knownSupport);
-}
+joined b caps = record { held = bitOr (b .held) (granted b (support caps) (control caps)); supported = bitOr (b .supported) (bitAnd (support caps) knownSupport) }
 
 -- "A query changes nothing", nor does a call with another UUID, revision or Count
 unfoldable pub oscAfter : Bridge → (revision count : ℕ) (uuid caps : List ℕ) → Holding

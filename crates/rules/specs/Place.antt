@@ -47,6 +47,7 @@ placeOf i b a =
     let o = a - b .base in
     record { bridge = record { 0 = i }; bus = o / 2 ^ 20; device = o / 2 ^ 15 % 32; function = o / 2 ^ 12 % 8; offset = o % 2 ^ 12 }
 
+-- the zeros of a place
 abbrev pub noPlace : Place
 noPlace = record { bridge = record { 0 = 0 }; bus = 0; device = 0; function = 0; offset = 0 }
 

@@ -21,6 +21,7 @@ pub record Field : Type 0 where
 abbrev pub fieldAt : List ℕ → ℕ → Field
 fieldAt l i = record { start = i; tag = byte l i; size = word l (1 + i) }
 
+-- the field before the rest of the walk
 abbrev pub prepend : Field → Option (List Field) → Option (List Field)
 prepend f none = none
 prepend f (some r) = some (f ∷ r)
@@ -33,6 +34,7 @@ fieldsFrom (suc n) l i =
     let rest : Option (List Field) = prepend (fieldAt l i) (fieldsFrom n l next) in
     cond (eqb i (length l)) (some []) (cond (leb next (length l)) rest none)
 
+-- the fields of a block, which has no more fields than bytes
 unfoldable pub fieldsOf : List ℕ → Option (List Field)
 fieldsOf l = fieldsFrom (length l) l 0
 
@@ -50,13 +52,28 @@ recordSize zero = 20
 recordSize (suc zero) = 16
 recordSize (suc (suc n)) = 68
 
+-- the registers of table 6-9, from 0: Uncorrectable Error Mask and Severity, Correctable Error Mask, Advanced Error Capabilities and Control,
+-- Device Control, Link Control, Secondary Uncorrectable Error Severity and Mask
+abbrev pub deviceControl : ℕ
+deviceControl = 4
+
+abbrev pub linkControl : ℕ
+linkControl = 5
+
+-- type 2: "eight AND/OR pairs", that of register k
+abbrev pub andMask : List ℕ → Field → ℕ → ℕ
+andMask l f k = value l f (1 + 2 * k)
+
+abbrev pub orMask : List ℕ → Field → ℕ → ℕ
+orMask l f k = value l f (2 + 2 * k)
+
 -- the values of types 0, 1 and 2 (document 002, tables 6-7 to 6-9)
 abbrev pub valuesSound : List ℕ → Field → ℕ → Bool
 valuesSound l f zero = leb (value l f 1) 255 && leb (value l f 2) 255 && leb (value l f 3) 1 && leb (value l f 4) 1
 valuesSound l f (suc zero) = leb (value l f 1) 3 && leb (value l f 2) 7 && leb (value l f 3) 7
 valuesSound l f (suc (suc n)) =
-    leb (value l f 9) 65535 && leb (value l f 10) 65535  -- Device Control
-    && leb (value l f 11) 65535 && leb (value l f 12) 65535  -- Link Control
+    leb (andMask l f deviceControl) 65535 && leb (orMask l f deviceControl) 65535
+    && leb (andMask l f linkControl) 65535 && leb (orMask l f linkControl) 65535
 
 -- what is sound of one field
 abbrev pub fieldSound : List ℕ → Field → Bool
@@ -89,6 +106,7 @@ abbrev pub recordAmong : List ℕ → ℕ → Option (List Field) → Option Fie
 recordAmong l type none = none
 recordAmong l type (some r) = first (λ f. isRecord l f && eqb (f .tag) type) r
 
+-- the same of a block
 unfoldable pub recordIn : List ℕ → ℕ → Option Field
 recordIn l type = recordAmong l type (fieldsOf l)
 
@@ -106,19 +124,21 @@ recordRefusals slot block type =
     ∷ (9 if isNone (recordIn (deciding slot block) type))
     ∷ []
 
+-- by the number: 0 hands back the part, any other the empty part
 abbrev pub foundBy : ℕ → Option Field → Found
 foundBy zero none = record { number = 0; start = 0; size = 0 }
 foundBy zero (some f) = record { number = 0; start = f .start; size = 3 + f .size }
 foundBy (suc k) o = record { number = suc k; start = 0; size = 0 }
 
+-- the record search
 abbrev pub findRecord : (slot block : List ℕ) (type : ℕ) → Found
 findRecord slot block type = foundBy (firstOf (recordRefusals slot block type)) (recordIn (deciding slot block) type)
 
 -- ---- register values
 
--- refusal 10; Device Control is register 4 of table 6-9's order, Link Control 5
+-- refusal 10: "the register list is not 8 numbers, or its Device Control or Link Control is above 65535"
 abbrev pub registersBad : List ℕ → Bool
-registersBad current = not (eqb (length current) 8) || ltb 65535 (getD current 4 0) || ltb 65535 (getD current 5 0)
+registersBad current = not (eqb (length current) 8) || ltb 65535 (getD current deviceControl 0) || ltb 65535 (getD current linkControl 0)
 
 -- "New = (current AND mask) OR mask, bit by bit"
 abbrev pub andOr : (current and or : ℕ) → ℕ
@@ -127,8 +147,9 @@ andOr current and or = bitOr (bitAnd current and) or
 -- register k; the six error registers too, "unless AER (bit 3) is held, when they stay"
 abbrev pub newValue : (aerHeld : Bool) → List ℕ → Field → (k current : ℕ) → ℕ
 newValue aerHeld l f k current =
-    cond (aerHeld && not (eqb k 4 || eqb k 5)) current (andOr current (value l f (1 + 2 * k)) (value l f (2 + 2 * k)))
+    cond (aerHeld && not (eqb k deviceControl || eqb k linkControl)) current (andOr current (andMask l f k) (orMask l f k))
 
+-- the new values of the registers from k on
 abbrev pub newValues : (aerHeld : Bool) → List ℕ → Field → ℕ → List ℕ → List ℕ
 newValues aerHeld l f k [] = []
 newValues aerHeld l f k (c ∷ current) = newValue aerHeld l f k c ∷ newValues aerHeld l f (suc k) current

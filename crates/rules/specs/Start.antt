@@ -33,6 +33,7 @@ inside r e = eqb (r .segment) (e .segment) && leb (e .startBus) (r .«first_bus�
 abbrev pub entryOf : List Entry → BridgeRow → Option Entry
 entryOf es r = first (inside r) es
 
+-- the base of the entry found
 abbrev pub baseOf : Option Entry → ℕ
 baseOf none = 0
 baseOf (some e) = e .base
@@ -66,6 +67,7 @@ rowsSound es rows =
 abbrev pub startRefusals : StartInput → List Refusal
 startRefusals x = (6 if not (mcfgSound (x .mcfg))) ∷ (7 if not (rowsSound (entries (x .mcfg)) (x .rows))) ∷ []
 
+-- the number that start gives
 unfoldable pub startNumber : StartInput → ℕ
 startNumber x = firstOf (startRefusals x)
 
@@ -91,6 +93,7 @@ abbrev pub startBy : ℕ → StartInput → Table
 startBy zero x = tableOf (map (bridgeOf (entries (x .mcfg))) (x .rows))
 startBy (suc k) x = tableOf []
 
+-- the table that start hands back, refused or not
 unfoldable pub startTable : StartInput → Table
 startTable x = startBy (startNumber x) x
 

@@ -13,9 +13,11 @@ pub record Holding : Type 0 where
   pub held : ℕ
   pub supported : ℕ
 
+-- what a bridge holds at start and after a reset
 abbrev pub nothingHeld : Holding
 nothingHeld = record { held = 0; supported = 0 }
 
+-- what this bridge holds
 abbrev pub holding : Bridge → Holding
 holding b = record { held = b .held; supported = b .supported }
 
@@ -44,6 +46,7 @@ owns s b = eqb (b .owner .0) (s .0)
 abbrev pub noBridge : Bridge
 noBridge = record { base = 0; permitted = 0; held = 0; supported = 0; segment = 0; owner = record { 0 = 0 }; «first_bus» = 0; «last_bus» = 0 }
 
+-- the row of bridge i
 abbrev pub bridgeAt : Table → ℕ → Bridge
 bridgeAt t i = getD (t .bridges) i noBridge
 
@@ -51,6 +54,7 @@ bridgeAt t i = getD (t .bridges) i noBridge
 abbrev pub bridgesOf : Table → List Bridge
 bridgesOf t = take (t .count) (t .bridges)
 
+-- the table with these rows
 abbrev pub withBridges : Table → List Bridge → Table
 withBridges t l = record { bridges = l; count = t .count }
 
