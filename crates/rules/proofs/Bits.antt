@@ -1,7 +1,7 @@
 -- Single bits of `&` and `|`, and numbers that have the same bits.
 -- Assumes nothing.
 use mathlib.Core.Path.{_≡_, refl, sym, ap, _∙_}
-use mathlib.Core.Bool.{_&&_, _||_}
+use mathlib.Core.Bool.{Bool, true, false, _&&_, _||_}
 use Prim.Native.Nat.{ℕ, zero, suc, _+_, _/_, _%_, _^_, _<_, min, max}
 use native.Mathlib.Omega.{arith}
 use lib.Dec.{eqb}
@@ -9,41 +9,35 @@ use lib.Pow.{shr-shr}
 use lib.Bits.{bitAnd, bitOr, and-step, or-step, and-shr, or-shr}
 use Rattle.rules.specs.Numbers.{bit}
 
+-- an operation on digits is the one on tests that has its four values
+digits : (f : ℕ → ℕ → ℕ) (g : Bool → Bool → Bool)
+    → eqb (f 0 0) 1 ≡ g false false → eqb (f 0 1) 1 ≡ g false true → eqb (f 1 0) 1 ≡ g true false → eqb (f 1 1) 1 ≡ g true true
+    → (d e : ℕ) → d < 2 → e < 2 → eqb (f d e) 1 ≡ g (eqb d 1) (eqb e 1)
+digits f g a b c z zero zero h k = a
+digits f g a b c z zero (suc zero) h k = b
+digits f g a b c z (suc zero) zero h k = c
+digits f g a b c z (suc zero) (suc zero) h k = z
+digits f g a b c z zero (suc (suc e)) h k = absurd (omega arith)
+digits f g a b c z (suc zero) (suc (suc e)) h k = absurd (omega arith)
+digits f g a b c z (suc (suc d)) e h k = absurd (omega arith)
+
 odd-and : (x y : ℕ) → bitAnd x y % 2 ≡ min (x % 2) (y % 2)
 odd-and x y = ap (λ (n : ℕ). n % 2) (and-step x y) ∙ omega arith
 
 odd-or : (x y : ℕ) → bitOr x y % 2 ≡ max (x % 2) (y % 2)
 odd-or x y = ap (λ (n : ℕ). n % 2) (or-step x y) ∙ omega arith
 
-digit-and : (d e : ℕ) → d < 2 → e < 2 → eqb (min d e) 1 ≡ (eqb d 1 && eqb e 1)
-digit-and zero zero h k = refl
-digit-and zero (suc zero) h k = refl
-digit-and (suc zero) zero h k = refl
-digit-and (suc zero) (suc zero) h k = refl
-digit-and zero (suc (suc e)) h k = absurd (omega arith)
-digit-and (suc zero) (suc (suc e)) h k = absurd (omega arith)
-digit-and (suc (suc d)) e h k = absurd (omega arith)
-
-digit-or : (d e : ℕ) → d < 2 → e < 2 → eqb (max d e) 1 ≡ (eqb d 1 || eqb e 1)
-digit-or zero zero h k = refl
-digit-or zero (suc zero) h k = refl
-digit-or (suc zero) zero h k = refl
-digit-or (suc zero) (suc zero) h k = refl
-digit-or zero (suc (suc e)) h k = absurd (omega arith)
-digit-or (suc zero) (suc (suc e)) h k = absurd (omega arith)
-digit-or (suc (suc d)) e h k = absurd (omega arith)
-
 pub bit-and : (a b i : ℕ) → bit (bitAnd a b) i ≡ (bit a i && bit b i)
 unfolding bit
 bit-and a b i =
     ap (λ (n : ℕ). eqb (n % 2) 1) (and-shr a b i) ∙ ap (λ (n : ℕ). eqb n 1) (odd-and (a / 2 ^ i) (b / 2 ^ i))
-    ∙ digit-and (a / 2 ^ i % 2) (b / 2 ^ i % 2) (omega arith) (omega arith)
+    ∙ digits min _&&_ refl refl refl refl (a / 2 ^ i % 2) (b / 2 ^ i % 2) (omega arith) (omega arith)
 
 pub bit-or : (a b i : ℕ) → bit (bitOr a b) i ≡ (bit a i || bit b i)
 unfolding bit
 bit-or a b i =
     ap (λ (n : ℕ). eqb (n % 2) 1) (or-shr a b i) ∙ ap (λ (n : ℕ). eqb n 1) (odd-or (a / 2 ^ i) (b / 2 ^ i))
-    ∙ digit-or (a / 2 ^ i % 2) (b / 2 ^ i % 2) (omega arith) (omega arith)
+    ∙ digits max _||_ refl refl refl refl (a / 2 ^ i % 2) (b / 2 ^ i % 2) (omega arith) (omega arith)
 
 -- ---- numbers below 2 ^ k with the same k bits are the same
 

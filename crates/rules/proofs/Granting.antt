@@ -2,7 +2,7 @@
 -- Assumes nothing.
 use mathlib.Core.Path.{_≡_, refl, sym, ap, _∙_}
 use mathlib.Core.Logic.{_⊎_, inl, inr}
-use mathlib.Core.Bool.{Bool, true, false, _&&_, _||_}
+use mathlib.Core.Bool.{Bool, true, false, _&&_, _||_, false≢true, true≢false}
 use Prim.Native.Nat.{ℕ, zero, suc, _^_, _≤_, _<_}
 use native.Mathlib.Omega.{arith}
 use borrow.Author.Tests.{eq-eqb}
@@ -30,12 +30,12 @@ needs-is (suc (suc (suc (suc (suc i))))) = inl refl
 
 bit-16 : (i : ℕ) → bit 16 i ≡ true → i ≡ 4
 unfolding bit
-bit-16 zero e = absurd (mathlib.Core.Bool.false≢true e)
-bit-16 (suc zero) e = absurd (mathlib.Core.Bool.false≢true e)
-bit-16 (suc (suc zero)) e = absurd (mathlib.Core.Bool.false≢true e)
-bit-16 (suc (suc (suc zero))) e = absurd (mathlib.Core.Bool.false≢true e)
+bit-16 zero e = absurd (false≢true e)
+bit-16 (suc zero) e = absurd (false≢true e)
+bit-16 (suc (suc zero)) e = absurd (false≢true e)
+bit-16 (suc (suc (suc zero))) e = absurd (false≢true e)
 bit-16 (suc (suc (suc (suc zero)))) e = refl
-bit-16 (suc (suc (suc (suc (suc i))))) e = absurd (mathlib.Core.Bool.true≢false (sym e ∙ bit-high 5 16 (suc (suc (suc (suc (suc i))))) (omega arith) (omega arith)))
+bit-16 (suc (suc (suc (suc (suc i))))) e = absurd (true≢false (sym e ∙ bit-high 5 16 (suc (suc (suc (suc (suc i))))) (omega arith) (omega arith)))
 
 bit-4 : bit 16 4 ≡ true
 unfolding bit

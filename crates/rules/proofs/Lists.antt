@@ -1,7 +1,7 @@
 -- What the tests over lists say of each element and each pair; padded lists; the first element that passes.
 -- Assumes nothing.
 use mathlib.Core.Path.{_≡_, refl, ap}
-use mathlib.Core.Bool.{Bool, true, false, cond}
+use mathlib.Core.Bool.{Bool, true, false, cond, true≢false}
 use mathlib.Core.List.{List, [], _∷_, map}
 use mathlib.Core.Option.{some}
 use Prim.Native.Nat.{ℕ, zero, suc, _<_}
@@ -64,7 +64,7 @@ module _ {A : Type 0} (d : A) (p : A → Bool) where
     pub passes : p (getD l at d) ≡ true
 
   pub stands : (l : List A) → isNone (first p l) ≡ false → Stands l
-  stands [] e = absurd (mathlib.Core.Bool.true≢false e)
+  stands [] e = absurd (true≢false e)
   stands (x ∷ l) e = go (λ k. stands l k) (p x) refl e
     where
       go : (isNone (first p l) ≡ false → Stands l) → (q : Bool) → p x ≡ q → isNone (cond q (some x) (first p l)) ≡ false → Stands (x ∷ l)

@@ -2,7 +2,7 @@
 -- Assumes nothing.
 use mathlib.Core.Path.{_≡_, refl, sym, ap, _∙_, subst}
 use mathlib.Core.Logic.{_⊎_, inl, inr}
-use mathlib.Core.Bool.{Bool, true, false, not, _||_}
+use mathlib.Core.Bool.{Bool, true, false, not, _||_, false≢true}
 use mathlib.Core.List.{List, [], _∷_}
 use mathlib.Core.Option.{some, Option·none-ne-some}
 use Prim.Native.Nat.{ℕ, zero, suc, _+_, _*_, _^_, _%_, _≤_, _<_}
@@ -41,7 +41,7 @@ width-fits o w h m e = go (eqb w 1) (eqb w 2) (eqb w 4) refl refl refl e
     go true q r i j k z = omega (arith, eqb-true w 1 i)
     go false true r i j k z = let y = eqb-true w 2 j in omega (arith, rw y at m)
     go false false true i j k z = let y = eqb-true w 4 k in omega (arith, rw y at m)
-    go false false false i j k z = absurd (mathlib.Core.Bool.false≢true z)
+    go false false false i j k z = absurd (false≢true z)
 
 pub record Fits (device function offset width : ℕ) : Type 0 where
   pub device-fits : device ≤ 31

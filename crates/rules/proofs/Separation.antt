@@ -36,40 +36,37 @@ module _ (s : SessionNumber) (p : ℕ → Bool) where
     not-own : (n : ℕ) → sessionOf c ≡ s → p n ≡ false → owns (sessionOf c) (bridgeAt u n) ≡ false
     not-own n q h = ap (λ (x : SessionNumber). owns x (bridgeAt u n)) q ∙ sym (m n) ∙ h
 
-    own-outcome : sessionOf c ≡ s → step (view p u) c .outcome ≡ step u c .outcome
-    own-outcome q = go (onBridge u c) refl
+    -- by the bridge that the call is on, and whether it is the session's
+    by-bridge : {P : Type 0} → (onBridge u c ≡ none → P) → ((n : ℕ) → onBridge u c ≡ some n → p n ≡ true → P)
+        → ((n : ℕ) → onBridge u c ≡ some n → p n ≡ false → P) → P
+    by-bridge {P} none-case own-case other-case = go (onBridge u c) refl
       where
-        at-bridge : (n : ℕ) → onBridge u c ≡ some n → (b : Bool) → p n ≡ b → step (view p u) c .outcome ≡ step u c .outcome
-        at-bridge n e true h = shown-outcome p u n c e h
-        at-bridge n e false h = other-outcome p u n c e (not-own n q h)
+        at : (n : ℕ) → onBridge u c ≡ some n → (b : Bool) → p n ≡ b → P
+        at n e true h = own-case n e h
+        at n e false h = other-case n e h
 
-        go : (o : Option ℕ) → onBridge u c ≡ o → step (view p u) c .outcome ≡ step u c .outcome
-        go none e = none-outcome p u c e
-        go (some n) e = at-bridge n e (p n) refl
+        go : (o : Option ℕ) → onBridge u c ≡ o → P
+        go none e = none-case e
+        go (some n) e = at n e (p n) refl
+
+    own-outcome : sessionOf c ≡ s → step (view p u) c .outcome ≡ step u c .outcome
+    own-outcome q = by-bridge
+        (none-outcome p u c)
+        (λ n e h. shown-outcome p u n c e h)
+        (λ n e h. other-outcome p u n c e (not-own n q h))
 
     own-table : sessionOf c ≡ s → view p (step u c .table) ≡ step (view p u) c .table
-    own-table q = go (onBridge u c) refl
-      where
-        at-bridge : (n : ℕ) → onBridge u c ≡ some n → (b : Bool) → p n ≡ b → view p (step u c .table) ≡ step (view p u) c .table
-        at-bridge n e true h = shown-table p u n c e h
-        at-bridge n e false h =
-            ap (view p) (other-table u n c e (not-own n q h))
-            ∙ sym (other-table (view p u) n c (on-view p u c ∙ e) (ap (owns (sessionOf c)) (cleared-view p u n) ∙ not-own n q h))
-
-        go : (o : Option ℕ) → onBridge u c ≡ o → view p (step u c .table) ≡ step (view p u) c .table
-        go none e = ap (view p) (none-table u c e) ∙ sym (none-table (view p u) c (on-view p u c ∙ e))
-        go (some n) e = at-bridge n e (p n) refl
+    own-table q = by-bridge
+        (λ e. ap (view p) (none-table u c e) ∙ sym (none-table (view p u) c (on-view p u c ∙ e)))
+        (λ n e h. shown-table p u n c e h)
+        (λ n e h. ap (view p) (other-table u n c e (not-own n q h))
+        ∙ sym (other-table (view p u) n c (on-view p u c ∙ e) (ap (owns (sessionOf c)) (cleared-view p u n) ∙ not-own n q h)))
 
     others-table : eqb (sessionOf c .0) (s .0) ≡ false → view p (step u c .table) ≡ view p u
-    others-table q = go (onBridge u c) refl
-      where
-        at-bridge : (n : ℕ) → onBridge u c ≡ some n → (b : Bool) → p n ≡ b → view p (step u c .table) ≡ view p u
-        at-bridge n e true h = ap (view p) (other-table u n c e (owner-is s (sessionOf c) (bridgeAt u n) (sym (m n) ∙ h) q))
-        at-bridge n e false h = hidden-table p u n c e h
-
-        go : (o : Option ℕ) → onBridge u c ≡ o → view p (step u c .table) ≡ view p u
-        go none e = ap (view p) (none-table u c e)
-        go (some n) e = at-bridge n e (p n) refl
+    others-table q = by-bridge
+        (λ e. ap (view p) (none-table u c e))
+        (λ n e h. ap (view p) (other-table u n c e (owner-is s (sessionOf c) (bridgeAt u n) (sym (m n) ∙ h) q)))
+        (λ n e h. hidden-table p u n c e h)
 
   -- ---- a list of calls
 
