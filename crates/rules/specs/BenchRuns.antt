@@ -2,7 +2,7 @@
 use Prim.Native.Nat.{ℕ, zero, suc}
 use mathlib.Core.Bool.{true, false}
 use mathlib.Core.List.{List, [], _∷_, _++_}
-use lib.ListN.{set, replicate}
+use lib.ListN.{take, set, replicate}
 use Rattle.rules.specs.Place.{placeBad}
 use Rattle.rules.specs.Start.{StartInput, startNumber, startTable}
 use Rattle.rules.specs.Osc.{uuidBytes}
@@ -53,15 +53,23 @@ abbrev pub starts : List Line
 starts =
     (startNumber lesson gives 0)
     ∷ (startNumber (starting oneEntry []) gives 0)
-    -- a byte too many; revision 2; base 0xE0080000; two windows that share a byte
+    -- letters `mCFG`; 52 bytes; a byte too many; revision 2; buses 5 to 4; base 0xE0080000; two windows that share a byte
+    ∷ (startNumber (starting (set (set oneEntry 0 0x6D) 9 0xA7) []) gives 6)
+    ∷ (startNumber (starting (set (set (take 52 oneEntry) 4 52) 9 0xCE) []) gives 6)
     ∷ (startNumber (starting (oneEntry ++ 0 ∷ []) []) gives 6)
     ∷ (startNumber (starting (set (set oneEntry 8 2) 9 0xC6) []) gives 6)
+    ∷ (startNumber (starting (set (set (set oneEntry 54 5) 55 4) 9 0xBD) []) gives 6)
     ∷ (startNumber (starting (set (set oneEntry 46 8) 9 0xBF) []) gives 6)
     ∷ (startNumber (starting sharedByte []) gives 6)
+    -- the second base 0x1E0F00000: bus 0 of two segments, and of one
+    ∷ (startNumber (starting (set (set sharedByte 64 1) 9 0xD5) []) gives 0)
+    ∷ (startNumber (starting (set (set sharedByte 64 1) 68 0) []) gives 6)
     -- a reserved byte, with the sum and without it
     ∷ (startNumber (starting (set (set oneEntry 36 1) 9 0xC6) []) gives 0)
     ∷ (startNumber (starting (set oneEntry 36 1) []) gives 6)
-    -- the first and the last row share bus 15; owner 16; permitted bit 5; a conventional row; 16 and 17 rows
+    -- buses 9 to 8; buses over the end of the entry; the first and the last row share bus 15; owner 16; permitted bit 5; a conventional row; 16 and 17 rows
+    ∷ (startNumber (starting oneEntry (row Express 3 9 8 0x1F ∷ [])) gives 7)
+    ∷ (startNumber (starting (set (set sharedByte 64 1) 9 0xD5) (row Express 3 10 20 0x1F ∷ [])) gives 7)
     ∷ (startNumber (starting oneEntry (row Express 3 0 15 0x1F ∷ row Express 5 16 31 0x1F ∷ row Express 5 15 15 0x1F ∷ [])) gives 7)
     ∷ (startNumber (starting oneEntry (row Express 16 0 15 0x1F ∷ [])) gives 7)
     ∷ (startNumber (starting oneEntry (row Express 3 0 15 0x20 ∷ [])) gives 7)
