@@ -17,7 +17,7 @@ use Rattle.rules.specs.Claims.{RefusalsExactly, RefusedChangesNothing, T
 use Rattle.rules.specs.declared.Table.{Table}
 use Rattle.rules.proofs.Tests.{and-off}
 use Rattle.rules.proofs.Refusals.{exactly}
-use Rattle.rules.proofs.Local.{fixed-step, fixed-after, same-rows, refused-table}
+use Rattle.rules.proofs.Local.{fixed-step, fixed-after, same-rows, same-bridge}
 use Rattle.rules.proofs.Separation.{same-outcomes, same-holding}
 use Rattle.rules.proofs.Soundness.{sound-step, sound-after}
 use Rattle.rules.proofs.Reach.{number-by, no-shared-byte}
@@ -65,7 +65,7 @@ call-refused t (on s n o) = go (numberAt (t .count) s n (bridgeAt t (n .0)) o)
     go : (k : ℕ) → (outcomeBy k (bridgeAt t (n .0)) o .number ≡ 0 → ⊥)
         → (withBridge t (n .0) (bridgeBy k (bridgeAt t (n .0)) o) ≡ t) × (outcomeBy k (bridgeAt t (n .0)) o .result ≡ zeros o) × (outcomeBy k (bridgeAt t (n .0)) o .left ≡ lent o)
     go zero r = absurd (r (number-by 0 (bridgeAt t (n .0)) o))
-    go (suc k) r = (refused-table t (n .0) k o, refl, refl)
+    go (suc k) r = (same-bridge t (n .0), refl, refl)
 call-refused t (locate s a) = go (firstOf (locateRefusals (fixed t) s a)) (placeBy (fixed t) a (windowOf (fixed t) s a))
   where
     go : (k : ℕ) (p : Place) → (locateBy k p .number ≡ 0 → ⊥) → (t ≡ t) × (locateBy k p .result ≡ located noPlace) × (locateBy k p .left ≡ [])
@@ -112,11 +112,11 @@ queries-change-nothing t s n revision count uuid caps answer q =
     unchanged = rw (q, and-off (recognised revision count uuid))
 
     go : (k : ℕ) → withBridge t (n .0) (bridgeBy k (bridgeAt t (n .0)) (osc revision count uuid caps answer)) ≡ t
-    go zero = ap (withBridge t (n .0)) unchanged ∙ refused-table t (n .0) 0 (osc revision count uuid caps answer)
-    go (suc k) = refused-table t (n .0) k (osc revision count uuid caps answer)
+    go zero = ap (withBridge t (n .0)) unchanged ∙ same-bridge t (n .0)
+    go (suc k) = same-bridge t (n .0)
 
 pub held-until-reset : HeldUntilReset
-held-until-reset x l c i j h e r = held-bit (tableAfter (startTable x) l) (sound-after (startTable x) l (start-sound x)) c i j h e r
+held-until-reset t c i j st h e r = held-bit t st c i j h e r
 
 -- ---- places: any two tables of runs from one start differ in nothing fixed
 

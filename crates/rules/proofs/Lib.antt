@@ -17,3 +17,4 @@ pub mod History
 pub mod Negotiation
 pub mod Claims
 pub mod Records
+pub mod Buffers

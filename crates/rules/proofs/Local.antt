@@ -76,20 +76,20 @@ present-is false n m e = cc
 
 -- ---- refusals 1 and 2 come first, whatever is asked
 
-absent-first : (count : ℕ) (s : SessionNumber) (n : BridgeNumber) (b : Bridge) (o : Operation) → leb count (n .0) ≡ true → numberAt count s n b o ≡ 1
-absent-first count s n b (osc revision dwords uuid caps answer) e = rw e
-absent-first count s n b reset e = rw e
-absent-first count s n b report e = rw e
-absent-first count s n b (address bus device function offset width) e = rw e
-absent-first count s n b (registerValues slot block current) e = rw e
+absent-first : (bridges : ℕ) (s : SessionNumber) (n : BridgeNumber) (b : Bridge) (o : Operation) → leb bridges (n .0) ≡ true → numberAt bridges s n b o ≡ 1
+absent-first bridges s n b (osc revision count uuid caps answer) e = rw e
+absent-first bridges s n b reset e = rw e
+absent-first bridges s n b report e = rw e
+absent-first bridges s n b (address bus device function offset width) e = rw e
+absent-first bridges s n b (registerValues slot block current) e = rw e
 
-owner-first : (count : ℕ) (s : SessionNumber) (n : BridgeNumber) (b : Bridge) (o : Operation) → owns s b ≡ false
-    → numberAt count s n b o ≡ cond (leb count (n .0)) 1 2
-owner-first count s n b o e = go (leb count (n .0)) refl o
+owner-first : (bridges : ℕ) (s : SessionNumber) (n : BridgeNumber) (b : Bridge) (o : Operation) → owns s b ≡ false
+    → numberAt bridges s n b o ≡ cond (leb bridges (n .0)) 1 2
+owner-first bridges s n b o e = go (leb bridges (n .0)) refl o
   where
-    go : (q : Bool) → leb count (n .0) ≡ q → (o : Operation) → numberAt count s n b o ≡ cond q 1 2
-    go true h o = absent-first count s n b o h
-    go false h (osc revision dwords uuid caps answer) = rw (h, e)
+    go : (q : Bool) → leb bridges (n .0) ≡ q → (o : Operation) → numberAt bridges s n b o ≡ cond q 1 2
+    go true h o = absent-first bridges s n b o h
+    go false h (osc revision count uuid caps answer) = rw (h, e)
     go false h reset = rw (h, e)
     go false h report = rw (h, e)
     go false h (address bus device function offset width) = rw (h, e)
@@ -101,11 +101,9 @@ pub cleared-by : (k : ℕ) (b : Bridge) (o : Operation) → cleared (bridgeBy k 
 cleared-by zero b o = refl
 cleared-by (suc k) b o = refl
 
-same-bridge : (t : Table) (n : ℕ) → withBridge t n (bridgeAt t n) ≡ t
+-- a row stored back as it was
+pub same-bridge : (t : Table) (n : ℕ) → withBridge t n (bridgeAt t n) ≡ t
 same-bridge t n = ap (withBridges t) (set-getD (t .bridges) n noBridge)
-
-pub refused-table : (t : Table) (n k : ℕ) (o : Operation) → withBridge t n (bridgeBy (suc k) (bridgeAt t n) o) ≡ t
-refused-table t n k o = same-bridge t n
 
 -- a number that is 1 or 2 changes no table and hides the row
 refused-by : (q : Bool) (t : Table) (n : ℕ) (o : Operation) → withBridge t n (bridgeBy (cond q 1 2) (bridgeAt t n) o) ≡ t

@@ -27,7 +27,7 @@ use Rattle.rules.proofs.Tests.{and-true, and-is, fails}
 use Rattle.rules.proofs.Indexed.{take-map}
 use Rattle.rules.proofs.Local.{bridge-fixed, same-rows}
 use Rattle.rules.proofs.Soundness.{in-table, table-long}
-use Rattle.rules.proofs.Reach.{Fits, reached, Accepted, accepted, one-owner}
+use Rattle.rules.proofs.Reach.{Fits, reached, Accepted, address-accepted, one-owner}
 
 -- ---- the first bridge that passes a test
 
@@ -110,7 +110,7 @@ AcceptedAt t s p w a = Accepted t s (p .bridge) (p .bus) (p .device) (p .functio
 
 accepted-at : (t : Table) (s : SessionNumber) (p : Place) (w a : ℕ) → step t (addressCall s p w) .outcome ≡ answers (addressed a) → AcceptedAt t s p w a
 accepted-at t s p w a e =
-    accepted t s (p .bridge) (p .bus) (p .device) (p .function) (p .offset) w a (ap (λ (o : Outcome). o .number) e) (ap (λ (o : Outcome). o .result) e)
+    address-accepted t s (p .bridge) (p .bus) (p .device) (p .function) (p .offset) w a (ap (λ (o : Outcome). o .number) e) (ap (λ (o : Outcome). o .result) e)
 
 -- the address lies in its bridge's window
 lies : (t : Table) (s : SessionNumber) (p : Place) (w a : ℕ) → AcceptedAt t s p w a → inWindow a (bridgeAt t (p .bridge .0)) ≡ true

@@ -72,7 +72,7 @@ reached b bus device function offset width x e f k =
     let hi : bus ≤ b .«last_bus» = ltb-false (b .«last_bus») bus (o .1) in
     and-is (le-leb (b .base + b .«first_bus» * 2 ^ 20) x (omega arith)) (lt-ltb x (b .base + (b .«last_bus» + 1) * 2 ^ 20) (omega arith))
 
--- ---- an accepted address call
+-- ---- an address-accepted address call
 
 pub record Accepted (t : Table) (s : SessionNumber) (n : BridgeNumber) (bus device function offset width a : ℕ) : Type 0 where
   pub in-count : n .0 < t .count
@@ -81,12 +81,12 @@ pub record Accepted (t : Table) (s : SessionNumber) (n : BridgeNumber) (bus devi
   pub bus-inside : busOutside (bridgeAt t (n .0)) bus ≡ false
   pub is-address : addressOf (bridgeAt t (n .0)) bus device function offset ≡ a
 
-pub accepted : (t : Table) (s : SessionNumber) (n : BridgeNumber) (bus device function offset width a : ℕ)
+pub address-accepted : (t : Table) (s : SessionNumber) (n : BridgeNumber) (bus device function offset width a : ℕ)
     → step t (on s n (address bus device function offset width)) .outcome .number ≡ 0
     → step t (on s n (address bus device function offset width)) .outcome .result ≡ addressed a
     → Accepted t s n bus device function offset width a
 unfolding step
-accepted t s n bus device function offset width a e r =
+address-accepted t s n bus device function offset width a e r =
     let b = bridgeAt t (n .0) in
     let o = address bus device function offset width in
     let k : numberAt (t .count) s n b o ≡ 0 = sym (number-by (numberAt (t .count) s n b o) b o) ∙ e in
@@ -124,14 +124,14 @@ call-within s t (on r n report) w a o e x y = absurd (Option·none-ne-some w e)
 call-within s t (on r n (address bus device function offset width)) w a o e x y =
     let q : width ≡ w = cc in
     subst (λ (z : SessionNumber). Within z a w t) o (subst (λ (z : ℕ). Within r a z t) q
-    (address-within r t n bus device function offset width a (accepted t r n bus device function offset width a x y)))
+    (address-within r t n bus device function offset width a (address-accepted t r n bus device function offset width a x y)))
 call-within s t (on r n (registerValues slot block current)) w a o e x y = absurd (Option·none-ne-some w e)
 call-within s t (locate r at) w a o e x y = absurd (Option·none-ne-some w e)
 
-within : {s : SessionNumber} {a w : ℕ} {t : Table} {l : List Call} → Given s a w t l → Within s a w t
-within {s} {a} {w} {t} (now {c = c} o e x y) = call-within s t c w a o e x y
-within {s} {a} {w} {t} (later {c = c} g) =
-    let h = within g in
+given-within : {s : SessionNumber} {a w : ℕ} {t : Table} {l : List Call} → Given s a w t l → Within s a w t
+given-within {s} {a} {w} {t} (now {c = c} o e x y) = call-within s t c w a o e x y
+given-within {s} {a} {w} {t} (later {c = c} g) =
+    let h = given-within g in
     let u = step t c .table in
     let f = same-rows u t (fixed-step t c) (h .bridge) in
     record {
@@ -142,8 +142,8 @@ within {s} {a} {w} {t} (later {c = c} g) =
     }
 
 either-run : {s : SessionNumber} {a w : ℕ} {t : Table} {l m : List Call} → Given s a w t l ⊎ Given s a w t m → Within s a w t
-either-run (inl g) = within g
-either-run (inr g) = within g
+either-run (inl g) = given-within g
+either-run (inr g) = given-within g
 
 -- a bridge has one owner
 pub one-owner : (q r : SessionNumber) (b : Bridge) → owns q b ≡ true → owns r b ≡ true → q ≡ r

@@ -3,7 +3,7 @@
 use mathlib.Core.Path.{_≡_}
 use mathlib.Core.Logic.{_↔_, _⊎_}
 use mathlib.Core.Bool.{Bool, true, false}
-use mathlib.Core.List.{List, [], _∷_}
+use mathlib.Core.List.{List, [], _∷_, map}
 use mathlib.Core.Option.{some}
 use Prim.Native.Nat.{ℕ, _+_, _≤_, _<_}
 use lib.Bits.{bitOr}
@@ -49,6 +49,10 @@ RefusedChangesNothing =
     × ((x : StartInput) → (startNumber x ≡ 0 → ⊥) → startTable x ≡ tableOf [])
     × ((slot block : List ℕ) (type : ℕ) → (findRecord slot block type .number ≡ 0 → ⊥) → findRecord slot block type .size ≡ 0)
 
+-- "a full answer buffer": a call leaves every lent buffer as long as it was
+abbrev pub BuffersKeepLength : Type 0
+BuffersKeepLength = (t : Table) (c : Call) → map length (step t c .outcome .left) ≡ map length (lentTo c)
+
 -- "The record handed back is a part of whichever block decided, header included"
 abbrev pub RecordPart : Type 0
 RecordPart = (slot block : List ℕ) (type : ℕ)
@@ -79,9 +83,7 @@ QueriesChangeNothing = (t : Table) (s : SessionNumber) (n : BridgeNumber) (revis
 
 -- "Held bits leave only by reset of that bridge"
 abbrev pub HeldUntilReset : Type 0
-HeldUntilReset = (x : StartInput) (l : List Call) (c : Call) (i j : ℕ)
-    → let t : Table = tableAfter (startTable x) l in
-    i < t .count → bit (bridgeAt t i .held) j ≡ true
+HeldUntilReset = (t : Table) (c : Call) (i j : ℕ) → Sound t → i < t .count → bit (bridgeAt t i .held) j ≡ true
     → ((s : SessionNumber) (n : BridgeNumber) → c ≡ on s n reset → reaches t i s n ≡ false)
     → bit (bridgeAt (step t c .table) i .held) j ≡ true
 
