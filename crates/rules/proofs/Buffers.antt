@@ -11,7 +11,6 @@ use lib.ListN.{length, replicate, length-replicate}
 use Rattle.rules.specs.Numbers.{le32, sameBytes}
 use Rattle.rules.specs.Refusals.{_if_, firstOf}
 use Rattle.rules.specs.Tables.{bridgeAt, fixed}
-use Rattle.rules.specs.Place.{Place}
 use Rattle.rules.specs.Osc.{granted, grantStatus, uuidBytes, framingBad, recognised, errorStatus, support, control, oscAnswer}
 use Rattle.rules.specs.Calls.{Operation, osc, reset, report, address, registerValues, on, locate, absent, foreign, accepted, lent, numberAt, outcomeBy, placeBy, windowOf, locateRefusals, locateBy, step}
 use Rattle.rules.specs.Claims.{BuffersKeepLength}
@@ -20,6 +19,7 @@ use Rattle.rules.specs.declared.BridgeNumber.{BridgeNumber}
 use Rattle.rules.specs.declared.SessionNumber.{SessionNumber}
 use Rattle.rules.proofs.Tests.{or-false, and-true}
 use Rattle.rules.proofs.Refusals.{clear}
+use Rattle.rules.specs.declared.Place.{Place}
 
 -- what refusal 3 leaves of Count and the answer buffer
 record Framed (count : ℕ) (answer : List ℕ) : Type 0 where

@@ -6,11 +6,11 @@ use mathlib.Core.List.{List, []}
 use mathlib.Core.Option.{Option, none, some}
 use Prim.Native.Nat.{ℕ, zero, suc}
 use Rattle.rules.specs.Refusals.{Refusal, firstOf, GivenBy}
-use Rattle.rules.specs.Tables.{Holding, withHolding, bridgeAt, withBridge, fixed}
-use Rattle.rules.specs.Place.{Place, noPlace}
+use Rattle.rules.specs.Tables.{withHolding, bridgeAt, withBridge, fixed}
+use Rattle.rules.specs.Place.{noPlace}
 use Rattle.rules.specs.Start.{StartInput, startRefusals, startNumber, startBy, startTable, tableOf}
 use Rattle.rules.specs.Osc.{recognised, oscAfter}
-use Rattle.rules.specs.Records.{Field, recordRefusals, foundBy, findRecord, deciding, recordIn}
+use Rattle.rules.specs.Records.{recordRefusals, foundBy, findRecord, deciding, recordIn}
 use Rattle.rules.specs.Calls.{osc, Call, on, locate, numberAt, outcomeBy, bridgeBy, locateBy, locateRefusals, placeBy, windowOf, located, step, listed, zeros, lent, zerosOf, lentTo, tableAfter}
 use Rattle.rules.specs.History.{historyFrom}
 use Rattle.rules.specs.Claims.{RefusalsExactly, RefusedChangesNothing, TablesSound, History, QueriesChangeNothing, HeldUntilReset, ThereAndBack, BackAndThere, OneAddress, Separation, Negotiation}
@@ -25,6 +25,9 @@ use Rattle.rules.proofs.Places.{there-and-back-like, back-and-there-lik
 use Rattle.rules.proofs.Starting.{start-sound, start-holds}
 use Rattle.rules.proofs.History.{history-from, in-array, held-bit}
 use Rattle.rules.proofs.Negotiation.{negotiated}
+use Rattle.rules.specs.declared.Field.{Field}
+use Rattle.rules.specs.declared.Place.{Place}
+use Rattle.rules.specs.declared.Holding.{Holding}
 
 -- ---- refusals
 

@@ -11,7 +11,7 @@ use lib.ListN.{length}
 use lib.Seq.{getD-set-same, getD-set-other}
 use Rattle.rules.specs.Numbers.{bit}
 use Rattle.rules.specs.Refusals.{_if_, firstOf}
-use Rattle.rules.specs.Tables.{Holding, holding, withHolding, noBridge, bridgeAt, withBridge, fixed}
+use Rattle.rules.specs.Tables.{holding, withHolding, noBridge, bridgeAt, withBridge, fixed}
 use Rattle.rules.specs.Start.{Sound}
 use Rattle.rules.specs.Osc.{support, control, granted, framingBad, recognised, query, oscAfter}
 use Rattle.rules.specs.Calls.{Operation, absent, foreign, osc, reset, report, address, registerValues, Call, on, locate, after, numberAt, bridgeBy, step, tableAfter}
@@ -24,6 +24,7 @@ use Rattle.rules.proofs.Tests.{or-left}
 use Rattle.rules.proofs.Bits.{bit-or}
 use Rattle.rules.proofs.Local.{bridge-fixed, fixed-step}
 use Rattle.rules.proofs.Soundness.{same-length}
+use Rattle.rules.specs.declared.Holding.{Holding}
 
 -- what bridge i holds after an operation on bridge n
 holding-by : (k : ℕ) (u : Table) (n i : ℕ) (o : Operation) → i < length (u .bridges)

@@ -11,7 +11,7 @@ use lib.Bits.{bitOr, and-self}
 use lib.ListN.{length}
 use lib.Pow.{shr-shr, shr-lt, split}
 use Rattle.rules.specs.Numbers.{le32}
-use Rattle.rules.specs.Tables.{Holding, holding, withHolding, owns, bridgeAt, fixed}
+use Rattle.rules.specs.Tables.{holding, withHolding, owns, bridgeAt, fixed}
 use Rattle.rules.specs.Start.{Sound}
 use Rattle.rules.specs.Osc.{granted, grantStatus, uuidBytes, framingBad, recognised, status, query, support, control, oscAnswer}
 use Rattle.rules.specs.Calls.{osc, Call, numberAt, step, tableAfter}
@@ -26,6 +26,7 @@ use Rattle.rules.proofs.Granting.{granted-lt, granted-support, granted-
 use Rattle.rules.proofs.Local.{fixed-after, same-rows}
 use Rattle.rules.proofs.Soundness.{same-length}
 use Rattle.rules.proofs.History.{history-from, history-next, in-array, undisturbed}
+use Rattle.rules.specs.declared.Holding.{Holding}
 
 -- a DWORD read where it was written
 four-bytes : (x : ℕ) → x < 2 ^ 32 → x % 256 + x / 2 ^ 8 % 256 * 2 ^ 8 + (x / 2 ^ 16 % 256 + x / 2 ^ 24 % 256 * 2 ^ 8) * 2 ^ 16 ≡ x

@@ -16,7 +16,7 @@ use Rattle.rules.specs.Lists.{find, isNone}
 use Rattle.rules.specs.Refusals.{_if_, firstOf}
 use Rattle.rules.specs.Mcfg.{busStart, busEnd}
 use Rattle.rules.specs.Tables.{cleared, owns, noBridge, bridgeAt, bridgesOf, fixed}
-use Rattle.rules.specs.Place.{Place, addressOf, busOutside, inWindow, ownWindow, placeOf}
+use Rattle.rules.specs.Place.{addressOf, busOutside, inWindow, ownWindow, placeOf}
 use Rattle.rules.specs.Start.{Sound}
 use Rattle.rules.specs.Calls.{address, on, locate, addressed, located, Outcome, numberAt, windowOf, placeBy, locateBy, locateIn, step}
 use Rattle.rules.specs.Claims.{addressCall, answers}
@@ -28,6 +28,7 @@ use Rattle.rules.proofs.Indexed.{take-map}
 use Rattle.rules.proofs.Local.{bridge-fixed, same-rows}
 use Rattle.rules.proofs.Soundness.{in-table, table-long}
 use Rattle.rules.proofs.Reach.{Fits, reached, Accepted, address-accepted, one-owner}
+use Rattle.rules.specs.declared.Place.{Place}
 
 -- ---- the first bridge that passes a test
 

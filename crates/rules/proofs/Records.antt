@@ -13,11 +13,12 @@ use lib.ListN.{length, getD}
 use Rattle.rules.specs.Lists.{isNone}
 use Rattle.rules.specs.Numbers.{byte, word, dword}
 use Rattle.rules.specs.Refusals.{_if_, firstOf}
-use Rattle.rules.specs.Records.{Field, fieldAt, prepend, fieldsFrom, fieldsOf, value, isRecord, blockSound, deciding, recordAmong, recordIn, recordRefusals, foundBy}
+use Rattle.rules.specs.Records.{fieldAt, prepend, fieldsFrom, fieldsOf, value, isRecord, blockSound, deciding, recordAmong, recordIn, recordRefusals, foundBy}
 use Rattle.rules.specs.Claims.{RecordPart}
 use Rattle.rules.proofs.Tests.{and-true}
 use Rattle.rules.proofs.Refusals.{clear}
 use Rattle.rules.proofs.Lists.{stands}
+use Rattle.rules.specs.declared.Field.{Field}
 
 noField : Field
 noField = record { start = 0; tag = 0; size = 0 }

@@ -14,7 +14,7 @@ use lib.ListN.{length, getD, length-map}
 use Rattle.rules.specs.Limits.{maxRows}
 use Rattle.rules.specs.Lists.{every, pairwise, padded, isNone}
 use Rattle.rules.specs.Refusals.{_if_}
-use Rattle.rules.specs.Mcfg.{Entry, entries, busStart, busEnd, busesApart, entrySound, shareNoByte, mcfgSound}
+use Rattle.rules.specs.Mcfg.{entries, busStart, busEnd, busesApart, entrySound, shareNoByte, mcfgSound}
 use Rattle.rules.specs.Tables.{nothingHeld, holding, noBridge, bridgeAt}
 use Rattle.rules.specs.Place.{inWindow}
 use Rattle.rules.specs.Start.{StartInput, inside, entryOf, rowSound, rowsApart, rowsSound, startNumber, bridgeOf, tableOf, startBy, startTable, Sound}
@@ -25,18 +25,19 @@ use Rattle.rules.specs.declared.Table.{Table}
 use Rattle.rules.proofs.Tests.{and-true, and-l, and-r, or-true}
 use Rattle.rules.proofs.Refusals.{clear}
 use Rattle.rules.proofs.Lists.{every-at, pairwise-at, padded-length, padded-at, map-at, Stands, stands}
+use Rattle.rules.specs.declared.Entry.{Entry}
 
 -- ---- rows inside entries
 
 record Inside (r : BridgeRow) (e : Entry) : Type 0 where
   segment-is : r .segment ≡ e .segment
-  low : e .startBus ≤ r .«first_bus»
-  high : r .«last_bus» ≤ e .endBus
+  low : e .«start_bus» ≤ r .«first_bus»
+  high : r .«last_bus» ≤ e .«end_bus»
 
 inside-is : (r : BridgeRow) (e : Entry) → inside r e ≡ true → Inside r e
 inside-is r e h =
-    let a = and-true (eqb (r .segment) (e .segment) && leb (e .startBus) (r .«first_bus»)) (leb (r .«last_bus») (e .endBus)) h in
-    let b = and-true (eqb (r .segment) (e .segment)) (leb (e .startBus) (r .«first_bus»)) (a .0) in
+    let a = and-true (eqb (r .segment) (e .segment) && leb (e .«start_bus») (r .«first_bus»)) (leb (r .«last_bus») (e .«end_bus»)) h in
+    let b = and-true (eqb (r .segment) (e .segment)) (leb (e .«start_bus») (r .«first_bus»)) (a .0) in
     record { segment-is = eqb-true _ _ (b .0); low = leb-true _ _ (b .1); high = leb-true _ _ (a .1) }
 
 -- an address of the window from a first to a last bus
@@ -67,17 +68,17 @@ one-entry r q e i j h x a b =
 two-entries : (r q : BridgeRow) (e f : Entry) → Inside r e → Inside q f → shareNoByte e f ≡ true → (x : ℕ)
     → At x (e .base) (r .«first_bus») (r .«last_bus») → At x (f .base) (q .«first_bus») (q .«last_bus») → ⊥
 two-entries r q e f i j h x a b =
-    go (or-true (leb (busEnd (e .base) (e .endBus)) (busStart (f .base) (f .startBus))) (leb (busEnd (f .base) (f .endBus)) (busStart (e .base) (e .startBus))) h)
+    go (or-true (leb (busEnd (e .base) (e .«end_bus»)) (busStart (f .base) (f .«start_bus»))) (leb (busEnd (f .base) (f .«end_bus»)) (busStart (e .base) (e .«start_bus»))) h)
   where
-    go : (leb (busEnd (e .base) (e .endBus)) (busStart (f .base) (f .startBus)) ≡ true)
-        ⊎ (leb (busEnd (f .base) (f .endBus)) (busStart (e .base) (e .startBus)) ≡ true) → ⊥
+    go : (leb (busEnd (e .base) (e .«end_bus»)) (busStart (f .base) (f .«start_bus»)) ≡ true)
+        ⊎ (leb (busEnd (f .base) (f .«end_bus»)) (busStart (e .base) (e .«start_bus»)) ≡ true) → ⊥
     go (inl k) = omega (arith, leb-true)
     go (inr k) = omega (arith, leb-true)
 
 -- ---- the table of a start that is not refused
 
 noEntry : Entry
-noEntry = record { base = 0; segment = 0; startBus = 0; endBus = 0 }
+noEntry = record { base = 0; segment = 0; «start_bus» = 0; «end_bus» = 0 }
 
 noRow : BridgeRow
 noRow = record { owner = record { 0 = 0 }; segment = 0; «first_bus» = 0; «last_bus» = 0; kind = Express; permitted = 0 }
@@ -156,8 +157,8 @@ module _ (es : List Entry) (rows : List BridgeRow) (se : every entrySound es ≡
       ending : (i : ℕ) → i < n → busEnd (bridgeAt made i .base) (bridgeAt made i .«last_bus») ≤ 2 ^ 64
       ending i h =
           let e = every-at noEntry entrySound es se (lies i h .at) (lies i h .in-list) in
-          let t : leb (busEnd (entry i h .base) (entry i h .endBus)) (2 ^ 64) ≡ true = search (and-l, and-r) in
-          let u = leb-true (busEnd (entry i h .base) (entry i h .endBus)) (2 ^ 64) t in
+          let t : leb (busEnd (entry i h .base) (entry i h .«end_bus»)) (2 ^ 64) ≡ true = search (and-l, and-r) in
+          let u = leb-true (busEnd (entry i h .base) (entry i h .«end_bus»)) (2 ^ 64) t in
           let v = inside-is (nth i) (entry i h) (lies i h .passes) in
           rw (bridge-is i h, lies i h .is) (omega (arith, v .high, u))
 

@@ -6,7 +6,7 @@ use lib.ListN.{take, set, replicate}
 use Rattle.rules.specs.Place.{placeBad}
 use Rattle.rules.specs.Start.{StartInput, startNumber, startTable}
 use Rattle.rules.specs.Osc.{uuidBytes}
-use Rattle.rules.specs.Records.{Found, findRecord}
+use Rattle.rules.specs.Records.{findRecord}
 use Rattle.rules.specs.Calls.{osc, reset, report, address, registerValues, Call, on, locate, nothing, reported, addressed, located, values, outcome, outcomes}
 use Rattle.rules.specs.BenchSheet.{Line, _gives_, AllHold, oscOn}
 use Rattle.rules.specs.declared.BridgeKind.{BridgeKind}
@@ -14,6 +14,7 @@ use Rattle.rules.specs.declared.BridgeKind.the-variants.{Express, Conven
 use Rattle.rules.specs.declared.BridgeNumber.{BridgeNumber}
 use Rattle.rules.specs.declared.BridgeRow.{BridgeRow}
 use Rattle.rules.specs.declared.SessionNumber.{SessionNumber}
+use Rattle.rules.specs.declared.Found.{Found}
 
 -- ---- starts
 

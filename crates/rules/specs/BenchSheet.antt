@@ -67,10 +67,10 @@ sheet =
     -- base 0xE0000000, place 1/2/3 offset 0x10: 0xE0113010
     ∷ (outcomeOn (bridgeWith 0 0) (address 1 2 3 0x10 1) gives outcome 0 (addressed 0xE0113010) [])
     -- entry base 0xFFFFFFFFF0000000, buses 0 to 255: sound
-    ∷ (entrySound (record { base = 0xFFFFFFFFF0000000; segment = 0; startBus = 0; endBus = 255 }) gives true)
+    ∷ (entrySound (record { base = 0xFFFFFFFFF0000000; segment = 0; «start_bus» = 0; «end_bus» = 255 }) gives true)
     -- base 0xFFFFFFFFF0100000, end 255: unsound; end 254: sound
-    ∷ (entrySound (record { base = 0xFFFFFFFFF0100000; segment = 0; startBus = 0; endBus = 255 }) gives false)
-    ∷ (entrySound (record { base = 0xFFFFFFFFF0100000; segment = 0; startBus = 0; endBus = 254 }) gives true)
+    ∷ (entrySound (record { base = 0xFFFFFFFFF0100000; segment = 0; «start_bus» = 0; «end_bus» = 255 }) gives false)
+    ∷ (entrySound (record { base = 0xFFFFFFFFF0100000; segment = 0; «start_bus» = 0; «end_bus» = 254 }) gives true)
     -- current 0x2110, AND 0xFFFFFFF0, OR 0x6: 0x2116
     ∷ (andOr 0x2110 0xFFFFFFF0 0x6 gives 0x2116)
     -- the 42-byte block, the example of document 002: sound

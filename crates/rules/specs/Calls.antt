@@ -8,14 +8,17 @@ use lib.ListN.{replicate}
 use Rattle.rules.specs.Lists.{find, isNone}
 use Rattle.rules.specs.Numbers.{bit}
 use Rattle.rules.specs.Refusals.{Refusal, _if_, firstOf}
-use Rattle.rules.specs.Tables.{Holding, nothingHeld, holding, withHolding, owns, bridgeAt, bridgesOf, withBridge, fixed}
-use Rattle.rules.specs.Place.{Place, addressOf, placeBad, busOutside, ownWindow, placeOf, noPlace}
+use Rattle.rules.specs.Tables.{nothingHeld, holding, withHolding, owns, bridgeAt, bridgesOf, withBridge, fixed}
+use Rattle.rules.specs.Place.{addressOf, placeBad, busOutside, ownWindow, placeOf, noPlace}
 use Rattle.rules.specs.Osc.{framingBad, oscAnswer, oscAfter}
-use Rattle.rules.specs.Records.{Field, blockSound, deciding, recordIn, registersBad, newValues}
+use Rattle.rules.specs.Records.{blockSound, deciding, recordIn, registersBad, newValues}
 use Rattle.rules.specs.declared.Bridge.{Bridge}
 use Rattle.rules.specs.declared.BridgeNumber.{BridgeNumber}
 use Rattle.rules.specs.declared.SessionNumber.{SessionNumber}
 use Rattle.rules.specs.declared.Table.{Table}
+use Rattle.rules.specs.declared.Field.{Field}
+use Rattle.rules.specs.declared.Place.{Place}
+use Rattle.rules.specs.declared.Holding.{Holding}
 
 -- what a call asks of the one bridge that it names
 pub data Operation : Type 0 where

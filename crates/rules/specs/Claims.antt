@@ -11,17 +11,20 @@ use lib.ListN.{length, getD}
 use Rattle.rules.specs.Lists.{every, pairwise}
 use Rattle.rules.specs.Numbers.{byte, word, dword, bit}
 use Rattle.rules.specs.Refusals.{GivenBy}
-use Rattle.rules.specs.Tables.{Holding, nothingHeld, holding, cleared, owns, bridgeAt}
-use Rattle.rules.specs.Place.{Place, InReach}
+use Rattle.rules.specs.Tables.{nothingHeld, holding, cleared, owns, bridgeAt}
+use Rattle.rules.specs.Place.{InReach}
 use Rattle.rules.specs.Start.{StartInput, startRefusals, startNumber, startTable, tableOf, Sound}
 use Rattle.rules.specs.Osc.{grantedBit, granted, uuidBytes, status, query, control}
-use Rattle.rules.specs.Records.{deciding, Found, recordRefusals, findRecord}
+use Rattle.rules.specs.Records.{deciding, recordRefusals, findRecord}
 use Rattle.rules.specs.Calls.{osc, reset, address, Call, on, locate, Result, addressed, located, Outcome, outcome, step, listed, zerosOf, lentTo, tableAfter, sessionOf, callsOf, outcomesOf, widthOf}
 use Rattle.rules.specs.History.{reaches, historyStep, historyFrom}
 use Rattle.rules.specs.declared.Bridge.{Bridge}
 use Rattle.rules.specs.declared.BridgeNumber.{BridgeNumber}
 use Rattle.rules.specs.declared.SessionNumber.{SessionNumber}
 use Rattle.rules.specs.declared.Table.{Table}
+use Rattle.rules.specs.declared.Found.{Found}
+use Rattle.rules.specs.declared.Place.{Place}
+use Rattle.rules.specs.declared.Holding.{Holding}
 
 -- ---- the tests over lists and the granted set mean what they say
 

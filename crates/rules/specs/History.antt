@@ -5,13 +5,14 @@ use mathlib.Core.Bool.{Bool, not, cond, _&&_}
 use mathlib.Core.List.{List, [], _∷_}
 use lib.Bits.{bitAnd, bitOr}
 use lib.Dec.{eqb}
-use Rattle.rules.specs.Tables.{Holding, nothingHeld, withHolding, bridgeAt}
+use Rattle.rules.specs.Tables.{nothingHeld, withHolding, bridgeAt}
 use Rattle.rules.specs.Osc.{knownSupport, granted, framingBad, recognised, query, support, control}
 use Rattle.rules.specs.Calls.{absent, foreign, Call, on, locate, osc, reset, report, address, registerValues}
 use Rattle.rules.specs.declared.Bridge.{Bridge}
 use Rattle.rules.specs.declared.BridgeNumber.{BridgeNumber}
 use Rattle.rules.specs.declared.SessionNumber.{SessionNumber}
 use Rattle.rules.specs.declared.Table.{Table}
+use Rattle.rules.specs.declared.Holding.{Holding}
 
 -- the call names bridge i, and meets neither 1 nor 2
 abbrev pub reaches : Table → ℕ → SessionNumber → BridgeNumber → Bool

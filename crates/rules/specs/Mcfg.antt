@@ -7,17 +7,11 @@ use lib.ListN.{length, take}
 use Rattle.rules.specs.Limits.{maxEntries}
 use Rattle.rules.specs.Lists.{every, pairwise}
 use Rattle.rules.specs.Numbers.{byte, word, dword, qword, sum, sameBytes}
-
--- "entries of 16: base 8, segment 2, start bus 1, end bus 1, reserved 4"
-pub record Entry : Type 0 where
-  pub base : ℕ
-  pub segment : ℕ
-  pub startBus : ℕ
-  pub endBus : ℕ
+use Rattle.rules.specs.declared.Entry.{Entry}
 
 -- the entry at byte i
 abbrev pub entryAt : List ℕ → ℕ → Entry
-entryAt m i = record { base = qword m i; segment = word m (8 + i); startBus = byte m (10 + i); endBus = byte m (11 + i) }
+entryAt m i = record { base = qword m i; segment = word m (8 + i); «start_bus» = byte m (10 + i); «end_bus» = byte m (11 + i) }
 
 -- n entries from byte i on
 abbrev pub entriesFrom : ℕ → List ℕ → ℕ → List Entry
@@ -41,13 +35,13 @@ busesApart first last first′ last′ = ltb last first′ || ltb last′ first
 
 -- "entries of one segment share no bus"
 abbrev pub shareNoBus : Entry → Entry → Bool
-shareNoBus e f = not (eqb (e .segment) (f .segment)) || busesApart (e .startBus) (e .endBus) (f .startBus) (f .endBus)
+shareNoBus e f = not (eqb (e .segment) (f .segment)) || busesApart (e .«start_bus») (e .«end_bus») (f .«start_bus») (f .«end_bus»)
 
 -- "the address windows .. share no byte between any two entries"
 abbrev pub shareNoByte : Entry → Entry → Bool
 shareNoByte e f =
-    leb (busEnd (e .base) (e .endBus)) (busStart (f .base) (f .startBus))
-    || leb (busEnd (f .base) (f .endBus)) (busStart (e .base) (e .startBus))
+    leb (busEnd (e .base) (e .«end_bus»)) (busStart (f .base) (f .«start_bus»))
+    || leb (busEnd (f .base) (f .«end_bus»)) (busStart (e .base) (e .«start_bus»))
 
 -- "the four letters `MCFG` at 0"
 abbrev pub signature : List ℕ
@@ -56,9 +50,9 @@ signature = 0x4D ∷ 0x43 ∷ 0x46 ∷ 0x47 ∷ []
 -- what is sound of one entry
 abbrev pub entrySound : Entry → Bool
 entrySound e =
-    leb (e .startBus) (e .endBus)  -- start not above end
+    leb (e .«start_bus») (e .«end_bus»)  -- start not above end
     && eqb (e .base % 2 ^ 20) 0  -- base a multiple of 2^20
-    && leb (busEnd (e .base) (e .endBus)) (2 ^ 64)  -- base + (end + 1) x 2^20 at most 2^64
+    && leb (busEnd (e .base) (e .«end_bus»)) (2 ^ 64)  -- base + (end + 1) x 2^20 at most 2^64
 
 -- "Sound means"
 unfoldable pub mcfgSound : List ℕ → Bool

@@ -6,8 +6,9 @@ use lib.Bits.{bitAnd, bitOr}
 use lib.Dec.{eqb, ltb}
 use lib.ListN.{length, getD, replicate}
 use Rattle.rules.specs.Numbers.{dword, le32, sameBytes, bit, within, number}
-use Rattle.rules.specs.Tables.{Holding, holding}
+use Rattle.rules.specs.Tables.{holding}
 use Rattle.rules.specs.declared.Bridge.{Bridge}
+use Rattle.rules.specs.declared.Holding.{Holding}
 
 -- the control bits from 0 up, each with the set of control bits that it needs
 abbrev pub controlNeeds : List ℕ

@@ -7,14 +7,7 @@ use Rattle.rules.specs.Tables.{owns}
 use Rattle.rules.specs.declared.Bridge.{Bridge}
 use Rattle.rules.specs.declared.BridgeNumber.{BridgeNumber}
 use Rattle.rules.specs.declared.SessionNumber.{SessionNumber}
-
--- a place: "bridge, bus, device, function and offset"
-pub record Place : Type 0 where
-  pub bridge : BridgeNumber
-  pub bus : ℕ
-  pub device : ℕ
-  pub function : ℕ
-  pub offset : ℕ
+use Rattle.rules.specs.declared.Place.{Place}
 
 -- "Address = base + bus x 2^20 + device x 2^15 + function x 2^12 + offset"; the base belongs to bus 0
 abbrev pub addressOf : Bridge → (bus device function offset : ℕ) → ℕ

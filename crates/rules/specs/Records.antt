@@ -10,12 +10,8 @@ use Rattle.rules.specs.Limits.{maxBlock}
 use Rattle.rules.specs.Lists.{every, pairwise, first, isNone}
 use Rattle.rules.specs.Numbers.{byte, word, dword}
 use Rattle.rules.specs.Refusals.{Refusal, _if_, firstOf}
-
--- a field: where it starts, "tag (record type, 1 byte), length (2 bytes, little-endian)"
-pub record Field : Type 0 where
-  pub start : ℕ
-  pub tag : ℕ
-  pub size : ℕ
+use Rattle.rules.specs.declared.Field.{Field}
+use Rattle.rules.specs.declared.Found.{Found}
 
 -- the field at byte i
 abbrev pub fieldAt : List ℕ → ℕ → Field
@@ -111,11 +107,6 @@ unfoldable pub recordIn : List ℕ → ℕ → Option Field
 recordIn l type = recordAmong l type (fieldsOf l)
 
 -- ---- the record search: its number, and the part of the deciding block handed back, header included
-
-pub record Found : Type 0 where
-  pub number : ℕ
-  pub start : ℕ
-  pub size : ℕ
 
 -- "Record search 8, 9"
 abbrev pub recordRefusals : (slot block : List ℕ) (type : ℕ) → List Refusal

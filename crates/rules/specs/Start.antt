@@ -10,7 +10,7 @@ use Rattle.rules.specs.Limits.{maxRows, maxOwner}
 use Rattle.rules.specs.Lists.{every, pairwise, padded, first, isNone}
 use Rattle.rules.specs.Numbers.{within}
 use Rattle.rules.specs.Refusals.{Refusal, _if_, firstOf}
-use Rattle.rules.specs.Mcfg.{Entry, entries, mcfgSound, busesApart, busEnd}
+use Rattle.rules.specs.Mcfg.{entries, mcfgSound, busesApart, busEnd}
 use Rattle.rules.specs.Tables.{noBridge, bridgeAt}
 use Rattle.rules.specs.Place.{inWindow}
 use Rattle.rules.specs.Osc.{knownControl}
@@ -19,6 +19,7 @@ use Rattle.rules.specs.declared.BridgeKind.{BridgeKind}
 use Rattle.rules.specs.declared.BridgeKind.the-variants.{Express, Conventional}
 use Rattle.rules.specs.declared.BridgeRow.{BridgeRow}
 use Rattle.rules.specs.declared.Table.{Table}
+use Rattle.rules.specs.declared.Entry.{Entry}
 
 -- all that is lent to start
 pub record StartInput : Type 0 where
@@ -27,7 +28,7 @@ pub record StartInput : Type 0 where
 
 -- "the row's buses lie inside one MCFG entry of its segment": this one
 abbrev pub inside : BridgeRow → Entry → Bool
-inside r e = eqb (r .segment) (e .segment) && leb (e .startBus) (r .«first_bus») && leb (r .«last_bus») (e .endBus)
+inside r e = eqb (r .segment) (e .segment) && leb (e .«start_bus») (r .«first_bus») && leb (r .«last_bus») (e .«end_bus»)
 
 -- the entry that the row lies inside
 abbrev pub entryOf : List Entry → BridgeRow → Option Entry

@@ -7,11 +7,7 @@ use lib.ListN.{getD, set, take}
 use Rattle.rules.specs.declared.Bridge.{Bridge}
 use Rattle.rules.specs.declared.SessionNumber.{SessionNumber}
 use Rattle.rules.specs.declared.Table.{Table}
-
--- "What a bridge holds is its held and its supported bits in the table"
-pub record Holding : Type 0 where
-  pub held : ℕ
-  pub supported : ℕ
+use Rattle.rules.specs.declared.Holding.{Holding}
 
 -- what a bridge holds at start and after a reset
 abbrev pub nothingHeld : Holding

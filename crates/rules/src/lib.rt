@@ -1,7 +1,13 @@
 // The declared types. What the calls mean is in specs/, what follows from it in proofs/.
 
-// The most bridges that a table holds; `maxRows` in specs/Limits.
+// The limits of specs/Limits, under the same names.
 pub const MAX_ROWS: usize = 16;
+
+pub const MAX_ENTRIES: usize = 16;
+
+pub const MAX_OWNER: u8 = 15;
+
+pub const MAX_BLOCK: usize = 1024;
 
 #[repr(C)]
 pub struct SessionNumber(pub u8);
@@ -42,4 +48,44 @@ pub struct Bridge {
 pub struct Table {
     pub bridges: [Bridge; MAX_ROWS],
     pub count: usize,
+}
+
+// What a bridge holds: its held and its supported bits in the table.
+#[repr(C)]
+pub struct Holding {
+    pub held: u32,
+    pub supported: u32,
+}
+
+// An entry of the MCFG table: its base belongs to bus 0.
+pub struct Entry {
+    pub base: u64,
+    pub segment: u16,
+    pub start_bus: u8,
+    pub end_bus: u8,
+}
+
+// Where an address lies.
+#[repr(C)]
+pub struct Place {
+    pub bridge: BridgeNumber,
+    pub bus: u8,
+    pub device: u8,
+    pub function: u8,
+    pub offset: u16,
+}
+
+// A field of a record block: where it starts, its tag (the record type) and the length of its value.
+pub struct Field {
+    pub start: usize,
+    pub tag: u8,
+    pub size: usize,
+}
+
+// What the record search gives: its number, and the part of the deciding block, header included.
+#[repr(C)]
+pub struct Found {
+    pub number: u8,
+    pub start: usize,
+    pub size: usize,
 }
