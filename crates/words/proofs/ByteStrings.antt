@@ -1,0 +1,48 @@
+-- Laws of `sameBytes` and of `sum`.
+use Prim.Native.Nat.{ℕ, _+_, _<_, _≤_}
+use mathlib.Core.Path.{_≡_, refl, sym, ap, subst}
+use mathlib.Core.List.{List, [], _∷_}
+use mathlib.Core.Bool.{Bool, true, false, _&&_}
+use native.Mathlib.Numerals.{add-one}
+use lib.Dec.{eqb}
+use lib.ListN.{length, drop, getD, drop-of-length-le}
+use lib.Seq.{drop-cons}
+use borrow.Author.Tests.{eq-eqb, eqb-true}
+use Rattle.rules.specs.Numbers.{sum, sameBytes}
+
+-- the sum from place i is the byte there and the sum from the next
+pub sum-step : (b : List ℕ) (i : ℕ) → i < length b → sum (drop i b) ≡ getD b i 0 + sum (drop (i + 1) b)
+sum-step b i h = rw (add-one, drop-cons b i 0)
+
+-- past the end there is nothing to add
+pub sum-past : (b : List ℕ) (i : ℕ) → length b ≤ i → sum (drop i b) ≡ 0
+sum-past b i h = rw (drop-of-length-le b {i = i} h)
+
+-- a string is the same as itself
+same-refl : (a : List ℕ) → sameBytes a a ≡ true
+same-refl [] = refl
+same-refl (x ∷ a) = rw (eq-eqb x x refl) (same-refl a)
+
+-- strings that are the same are equal
+pub same-eq : (a b : List ℕ) → sameBytes a b ≡ true → a ≡ b
+same-eq [] [] e = refl
+same-eq [] (y ∷ b) e = cc
+same-eq (x ∷ a) [] e = cc
+same-eq (x ∷ a) (y ∷ b) e = both (eqb x y) refl (same-eq a b) e
+  where
+    both : (t : Bool) → eqb x y ≡ t → (sameBytes a b ≡ true → a ≡ b) → t && sameBytes a b ≡ true → x ∷ a ≡ y ∷ b
+    both true p f q = cc (eqb-true x y p, f q)
+    both false p f q = cc
+
+-- a flag that is true just where two strings are equal is `sameBytes`
+pub same-flag : (a b : List ℕ) (r : Bool) → (r ≡ true → a ≡ b) → (a ≡ b → r ≡ true) → r ≡ sameBytes a b
+same-flag a b true h k = sym (subst (λ (l : List ℕ). sameBytes a l ≡ true) (h refl) (same-refl a))
+same-flag a b false h k = no (sameBytes a b) refl
+  where
+    no : (t : Bool) → sameBytes a b ≡ t → false ≡ sameBytes a b
+    no true p = cc (k (same-eq a b p))
+    no false p = sym p
+
+-- strings of different lengths differ
+pub differ-length : (a b : List ℕ) → (length a ≡ length b → ⊥) → sameBytes a b ≡ false
+differ-length a b h = sym (same-flag a b false (λ e. cc) (λ e. absurd (h (ap length e))))

@@ -1,0 +1,28 @@
+-- Bytes stored one by one: a DWORD, and zeros to the end.
+use Prim.Native.Nat.{ℕ, suc, _+_, _≤_}
+use mathlib.Core.Path.{_≡_}
+use mathlib.Core.List.{List, [], _∷_, _++_, append-nil}
+use native.Mathlib.Omega.{arith}
+use lib.ListN.{length, take, drop, set, replicate}
+use lib.Seq.{sets-eq, drop-length}
+
+-- four stores are a splice
+pub four-stored : (b : List ℕ) (at w x y z : ℕ) → 4 + at ≤ length b
+    → set (set (set (set b at w) (1 + at) x) (2 + at) y) (3 + at) z ≡ take at b ++ (w ∷ x ∷ y ∷ z ∷ []) ++ drop (4 + at) b
+four-stored b at w x y z h = simp (one, two, three, four) (sets-eq (w ∷ x ∷ y ∷ z ∷ []) b at (omega arith))
+  where
+    one : 1 + at ≡ suc at
+    one = omega arith
+
+    two : 2 + at ≡ suc (suc at)
+    two = omega arith
+
+    three : 3 + at ≡ suc (suc (suc at))
+    three = omega arith
+
+    four : 4 + at ≡ at + 4
+    four = omega arith
+
+-- a buffer filled to its end
+pub filled : (d : List ℕ) (i : ℕ) → i ≡ length d → replicate i 0 ++ drop i d ≡ replicate (length d) 0
+filled d i e = rw (e, drop-length, append-nil)

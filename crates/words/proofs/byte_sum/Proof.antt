@@ -1,0 +1,56 @@
+-- `words::byte_sum` meets its contract: the invariant adds what is left to the sum so far, modulo 256. Assumes nothing.
+use Prim.Native.Nat.{ℕ, _+_, _-_, _≤_, _<_, _%_}
+use mathlib.Core.Path.{_≡_, refl}
+use native.Mathlib.Omega.{arith}
+use denote.Ref.{now}
+use lib.ListN.{length, drop}
+use borrow.Author.Needs.{needs}
+use Rattle.rules.specs.Numbers.{sum}
+use Rattle.words.proofs.ByteStrings.{sum-step, sum-past}
+use Rattle.words.proofs.byte_sum.Statement.{statement}
+use Rattle.words.proofs.byte_sum.Tie as tie
+
+abbrev Inv-loop : tie.InvT-loop
+Inv-loop b total₀ i₀ total i = (i ≤ length b) × (total < 256) × ((total + sum (drop i b)) % 256 ≡ sum b % 256)
+
+abbrev μ-loop : tie.MeasureT-loop
+μ-loop b total₀ i₀ total i = length b - i
+
+loop-holds : tie.Need-loop-holds Inv-loop μ-loop
+loop-holds c = search needs
+
+shared-slice-read-wrapping-add-u8 : tie.Need-shared-slice-read-wrapping-add-u8 Inv-loop μ-loop
+shared-slice-read-wrapping-add-u8 c = search needs
+
+wrapping-add-u8-requires : tie.Need-wrapping-add-u8-requires Inv-loop μ-loop
+wrapping-add-u8-requires c κs = search needs
+
+add-i : tie.Need-add-i Inv-loop μ-loop
+add-i c = search needs
+
+loop-less : tie.Need-loop-less Inv-loop μ-loop
+loop-less c = search needs
+
+loop-again : tie.Need-loop-again Inv-loop μ-loop
+loop-again c =
+    let l = c .before .before .before in
+    omega (arith, sum-step (now (l .before .before .args .b)) (l .loop .i) (c .before .before .loop-test .taken))
+
+returns : tie.Need-returns Inv-loop μ-loop
+returns c =
+    let l = c .before in
+    omega (arith, sum-past (now (l .before .before .args .b)) (l .loop .i) (c .loop-test .left))
+
+pub byte-sum-spec : {M : Type 1} → statement M
+byte-sum-spec =
+    tie.close
+    (tie.spec
+    Inv-loop
+    μ-loop
+    loop-holds
+    shared-slice-read-wrapping-add-u8
+    wrapping-add-u8-requires
+    add-i
+    loop-less
+    loop-again
+    returns)
