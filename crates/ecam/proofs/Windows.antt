@@ -1,0 +1,69 @@
+-- The window of a bridge's buses, by the distance from the base; the sums of an address fit.
+use Prim.Native.Nat.{ℕ, _+_, _-_, _*_, _/_, _%_, _^_, _≤_, _<_}
+use mathlib.Core.Path.{_≡_, refl, sym}
+use mathlib.Core.Bool.{Bool, true, false, not, _&&_, _||_}
+use native.Mathlib.Omega.{arith}
+use lib.Dec.{eqb, leb, ltb}
+use borrow.Author.Tests.{leb-true, ltb-true, ltb-false, le-leb, lt-ltb, le-ltb, lt-leb}
+use Rattle.rules.specs.Mcfg.{busStart, busEnd}
+use Rattle.rules.specs.Place.{placeBad, busOutside, inWindow}
+use Rattle.rules.specs.declared.Bridge.{Bridge}
+use Rattle.rules.proofs.Tests.{and-true, and-is, or-false, same-test}
+use Rattle.rules.proofs.Reach.{place-fits}
+
+-- an address below the base is in no window of it
+pub below-base : (b : Bridge) (a : ℕ) → a < b .base → false ≡ inWindow a b
+below-base b a h =
+    let e : leb (busStart (b .base) (b .«first_bus»)) a ≡ false = lt-leb (busStart (b .base) (b .«first_bus»)) a (omega arith) in
+    rw e
+
+-- from the base on, the bus is the distance in units of 2^20
+pub by-distance : (b : Bridge) (a : ℕ) → b .base ≤ a
+    → leb (b .«first_bus») ((a - b .base) / 1048576) && leb ((a - b .base) / 1048576) (b .«last_bus») ≡ inWindow a b
+by-distance b a h = same-test _ _ there back
+  where
+    there : leb (b .«first_bus») ((a - b .base) / 1048576) && leb ((a - b .base) / 1048576) (b .«last_bus») ≡ true → inWindow a b ≡ true
+    there e =
+        let p = and-true (leb (b .«first_bus») ((a - b .base) / 1048576)) (leb ((a - b .base) / 1048576) (b .«last_bus»)) e in
+        let q = leb-true (b .«first_bus») ((a - b .base) / 1048576) (p .0) in
+        let r = leb-true ((a - b .base) / 1048576) (b .«last_bus») (p .1) in
+        and-is (le-leb (busStart (b .base) (b .«first_bus»)) a (omega arith)) (lt-ltb a (busEnd (b .base) (b .«last_bus»)) (omega arith))
+
+    back : inWindow a b ≡ true → leb (b .«first_bus») ((a - b .base) / 1048576) && leb ((a - b .base) / 1048576) (b .«last_bus») ≡ true
+    back e =
+        let p = and-true (leb (busStart (b .base) (b .«first_bus»)) a) (ltb a (busEnd (b .base) (b .«last_bus»))) e in
+        let q = leb-true (busStart (b .base) (b .«first_bus»)) a (p .0) in
+        let r = ltb-true a (busEnd (b .base) (b .«last_bus»)) (p .1) in
+        and-is (le-leb (b .«first_bus») ((a - b .base) / 1048576) (omega arith)) (le-leb ((a - b .base) / 1048576) (b .«last_bus») (omega arith))
+
+-- what an address in the window has
+pub record InBuses (b : Bridge) (a : ℕ) : Type 0 where
+  pub from : b .base ≤ a
+  pub last : (a - b .base) / 1048576 ≤ b .«last_bus»
+
+pub in-buses : (b : Bridge) (a : ℕ) → inWindow a b ≡ true → InBuses b a
+in-buses b a e =
+    let p = and-true (leb (busStart (b .base) (b .«first_bus»)) a) (ltb a (busEnd (b .base) (b .«last_bus»))) e in
+    let q = leb-true (busStart (b .base) (b .«first_bus»)) a (p .0) in
+    let r = ltb-true a (busEnd (b .base) (b .«last_bus»)) (p .1) in
+    record { from = omega arith; last = omega arith }
+
+-- the sum of an address lies below the window's end
+pub sum-below : (b : Bridge) (bus device function offset width : ℕ)
+    → (placeBad device function offset width ≡ false) × (busOutside b bus ≡ false) × (busEnd (b .base) (b .«last_bus») ≤ 2 ^ 64)
+    → b .base + bus * 1048576 + device * 32768 + function * 4096 + offset < 18446744073709551616
+sum-below b bus device function offset width h =
+    let f = place-fits device function offset width (h .0) in
+    let l = ltb-false (b .«last_bus») bus (or-false (ltb bus (b .«first_bus»)) (ltb (b .«last_bus») bus) (h .1) .1) in
+    let e : b .base + (b .«last_bus» + 1) * 1048576 ≤ 18446744073709551616 = h .2 in
+    omega (arith, f .device-fits, f .function-fits, f .offset-fits)
+
+-- refusal 5, its last two tests found together
+pub bad-place : (device function offset width : ℕ) (m : Bool)
+    → m ≡ not (eqb width 1 || eqb width 2 || eqb width 4) || not (eqb (offset % width) 0)
+    → ltb 31 device || ltb 7 function || ltb 4095 offset || m ≡ placeBad device function offset width
+bad-place device function offset width m e = rw e (or-assoc (ltb 31 device || ltb 7 function || ltb 4095 offset) _ _)
+  where
+    or-assoc : (x y z : Bool) → x || (y || z) ≡ (x || y) || z
+    or-assoc true y z = refl
+    or-assoc false y z = refl

@@ -1,0 +1,74 @@
+// ECAM configuration addresses of one host bridge: a place to its address and back.
+use rules::Bridge;
+use rules::BridgeNumber;
+use rules::Place;
+ghost use mathlib.Core.Path.{_≡_};
+ghost use mathlib.Core.Bool.{true, false, not, _||_};
+ghost use Prim.Native.Nat.{_%_, _^_, _≤_};
+ghost use lib.Dec.{eqb};
+ghost use Rattle.rules.specs.Mcfg.{busEnd};
+ghost use Rattle.rules.specs.Place.{addressOf, placeBad, busOutside, inWindow, placeOf};
+
+// Whether the width is not 1, 2 or 4, or the offset no multiple of it.
+fn misaligned(offset: u16, width: u8) -> bool
+    ensures { λ r. ⌜ r ≡ not (eqb width 1 || eqb width 2 || eqb width 4) || not (eqb (offset % width) 0) ⌝ }
+{
+    match width {
+        1 => false,
+        2 => offset % 2 != 0,
+        4 => offset % 4 != 0,
+        _ => true,
+    }
+}
+
+// Refusal 5.
+pub fn place_bad(device: u8, function: u8, offset: u16, width: u8) -> bool
+    ensures { λ r. ⌜ r ≡ placeBad device function offset width ⌝ }
+{
+    (31 < device) | (7 < function) | (4095 < offset) | misaligned(offset, width)
+}
+
+// Refusal 4 of an address.
+pub fn bus_outside(b: Bridge, bus: u8) -> bool
+    ensures { λ r. ⌜ r ≡ busOutside b bus ⌝ }
+{
+    (bus < b.first_bus) | (b.last_bus < bus)
+}
+
+// The address of a place that is neither of the two, in a window that ends at 2^64 at most.
+pub fn address_of(b: Bridge, bus: u8, device: u8, function: u8, offset: u16, width: u8) -> u64
+    requires { ⌜ (placeBad device function offset width ≡ false) × (busOutside b bus ≡ false) × (busEnd (b .base) (b .«last_bus») ≤ 2 ^ 64) ⌝ }
+    ensures { λ r. ⌜ r ≡ addressOf b bus device function offset ⌝ }
+{
+    b.base
+        + (bus as u64) * 1048576
+        + (device as u64) * 32768
+        + (function as u64) * 4096
+        + (offset as u64)
+}
+
+// Whether an address lies in the window of the bridge's buses. Nothing is added, so nothing wraps.
+pub fn in_window(b: Bridge, address: u64) -> bool
+    ensures { λ r. ⌜ r ≡ inWindow address b ⌝ }
+{
+    if address < b.base {
+        return false;
+    }
+    let bus = (address - b.base) / 1048576;
+    ((b.first_bus as u64) <= bus) & (bus <= (b.last_bus as u64))
+}
+
+// The place of an address in the window of bridge n.
+pub fn place_of(n: BridgeNumber, b: Bridge, address: u64) -> Place
+    requires { ⌜ inWindow address b ≡ true ⌝ }
+    ensures { λ r. ⌜ r ≡ placeOf (n .0) b address ⌝ }
+{
+    let inside = address - b.base;
+    Place {
+        bridge: n,
+        bus: (inside / 1048576) as u8,
+        device: (inside / 32768 % 32) as u8,
+        function: (inside / 4096 % 8) as u8,
+        offset: (inside % 4096) as u16,
+    }
+}
