@@ -1,12 +1,14 @@
 -- Single bits of `&` and `|`, and numbers that have the same bits.
 -- Assumes nothing.
 use mathlib.Core.Path.{_≡_, refl, sym, ap, _∙_}
-use mathlib.Core.Bool.{Bool, true, false, _&&_, _||_}
-use Prim.Native.Nat.{ℕ, zero, suc, _+_, _/_, _%_, _^_, _<_, min, max}
+use mathlib.Core.Bool.{Bool, true, false, not, _&&_, _||_}
+use Prim.Native.Nat.{ℕ, zero, suc, _+_, _-_, _*_, _/_, _%_, _^_, _<_, min, max}
+use native.Mathlib.Nat.{zero-mul}
 use native.Mathlib.Omega.{arith}
 use lib.Dec.{eqb}
-use lib.Pow.{shr-shr}
-use lib.Bits.{bitAnd, bitOr, and-step, or-step, and-shr, or-shr}
+use lib.Pow.{shr-shr, pow-pos}
+use borrow.Author.Tests.{ne-eqb}
+use lib.Bits.{bitAnd, bitOr, and-step, or-step, and-shr, or-shr, and-high}
 use Rattle.rules.specs.Numbers.{bit}
 
 -- an operation on digits is the one on tests that has its four values
@@ -38,6 +40,16 @@ unfolding bit
 bit-or a b i =
     ap (λ (n : ℕ). eqb (n % 2) 1) (or-shr a b i) ∙ ap (λ (n : ℕ). eqb n 1) (odd-or (a / 2 ^ i) (b / 2 ^ i))
     ∙ digits max _||_ refl refl refl refl (a / 2 ^ i % 2) (b / 2 ^ i % 2) (omega arith) (omega arith)
+
+-- a mask of one bit leaves something just where the number has the bit
+pub mask-test : (x i : ℕ) → not (eqb (bitAnd x (2 ^ (1 + i) - 2 ^ i)) 0) ≡ bit x i
+unfolding bit
+mask-test x i = ap (λ (n : ℕ). not (eqb n 0)) (and-high x 1 i) ∙ go (x / 2 ^ i % 2 ^ 1) (omega arith)
+  where
+    go : (d : ℕ) → d < 2 → not (eqb (d * 2 ^ i) 0) ≡ eqb d 1
+    go zero h = ap (λ (n : ℕ). not (eqb n 0)) (zero-mul (2 ^ i))
+    go (suc zero) h = ap not (ne-eqb (1 * 2 ^ i) 0 (λ e. omega (arith, e, pow-pos i)))
+    go (suc (suc d)) h = absurd (omega arith)
 
 -- ---- numbers below 2 ^ k with the same k bits are the same
 

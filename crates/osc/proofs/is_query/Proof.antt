@@ -1,0 +1,18 @@
+-- `osc::is_query` meets its contract: the mask of bit 0 leaves something just where the bit is set.
+use mathlib.Core.Path.{ap, _∙_}
+use mathlib.Core.Bool.{not}
+use lib.Dec.{eqb}
+use lib.Bits.{bitAnd}
+use Rattle.rules.proofs.Bits.{mask-test}
+use borrow.Author.Needs.{needs}
+use Rattle.osc.proofs.is_query.Statement.{statement}
+use Rattle.osc.proofs.is_query.Tie as tie
+
+read32-requires : tie.Need-read32-requires
+read32-requires c κs = search needs
+
+returns : tie.Need-returns
+returns c = rw (c .read32 .ensures) (mask-test _ 0)
+
+pub is-query-spec : {M : Type 1} → statement M
+is-query-spec = tie.close (tie.spec read32-requires returns)

@@ -1,0 +1,179 @@
+// _OSC: framing, the granting rule by masks, the answer buffer, what a taking call adds.
+use rules::Bridge;
+use rules::Holding;
+ghost use mathlib.Core.Path.{_≡_};
+ghost use mathlib.Core.Bool.{false, cond};
+ghost use mathlib.Core.List.{_++_};
+ghost use Prim.Native.Nat.{_-_, _≤_};
+ghost use lib.ListN.{length, replicate};
+ghost use Rattle.osc.specs.Needs.{needsMet};
+ghost use Rattle.rules.specs.Numbers.{le32, sameBytes};
+ghost use Rattle.rules.specs.Tables.{holding};
+ghost use Rattle.rules.specs.Osc.{
+  granted as grantedOf,
+  grantStatus,
+  uuidBytes,
+  framingBad,
+  recognised,
+  errorStatus,
+  query,
+  support as supportOf,
+  control,
+  oscAnswer,
+  joined,
+  oscAfter,
+};
+
+// The UUID as it stands in the buffer.
+const UUID: [u8; 16] = *b"\x5b\x4d\xdb\x33\xf7\x1f\x1c\x40\x96\x57\x74\x41\xc0\x3d\xd7\x66";
+
+// The known control bits, those of them that need no other, and the one that the others need.
+const KNOWN_CONTROL: u32 = 0x1f;
+
+const FREE_CONTROL: u32 = 0x12;
+
+const EXPRESS_CAPABILITY: u32 = 0x10;
+
+const KNOWN_SUPPORT: u32 = 0x1f;
+
+const QUERY: u32 = 0x01;
+
+// Refusal 3.
+pub fn framing_bad(count: u32, uuid: &[u8], caps: &[u8], answer: &[u8]) -> bool
+    ensures { λ r. ⌜ r ≡ framingBad count (now (uuid .entry)) (now (caps .entry)) (now (answer .entry)) ⌝ }
+{
+    if uuid.len() != 16 {
+        return true;
+    }
+    if count == 0 {
+        return true;
+    }
+    if 8 < count {
+        return true;
+    }
+    let bytes = 4 * (count as usize);
+    (caps.len() != bytes) | (answer.len() != bytes)
+}
+
+// Whether the buffer is the UUID.
+fn is_uuid(uuid: &[u8]) -> bool
+    ensures { λ r. ⌜ r ≡ sameBytes (now (uuid .entry)) uuidBytes ⌝ }
+{
+    words::same(uuid, &UUID)
+}
+
+// 0 where the UUID, the revision and the Count are right, else the error status.
+fn error_status(revision: u32, count: u32, uuid: &[u8]) -> u32
+    ensures { λ r. ⌜ r ≡ cond (recognised revision count (now (uuid .entry))) 0 (errorStatus revision (now (uuid .entry))) ⌝ }
+{
+    if is_uuid(uuid) {
+        if revision != 1 {
+            return 0x08;
+        }
+        if count != 3 {
+            return 0x02;
+        }
+        return 0;
+    }
+    0x04
+}
+
+// Whether the query flag is set.
+fn is_query(caps: &[u8]) -> bool
+    requires { ⌜ 4 ≤ length (now caps) ⌝ }
+    ensures { λ r. ⌜ r ≡ query (now (caps .entry)) ⌝ }
+{
+    words::read32(caps, 0) & QUERY != 0
+}
+
+// The known control bits whose needs the available ones meet.
+fn needs_met(available: u32) -> u32
+    ensures { λ r. ⌜ r ≡ needsMet available ⌝ }
+{
+    if available & EXPRESS_CAPABILITY == EXPRESS_CAPABILITY {
+        return KNOWN_CONTROL;
+    }
+    FREE_CONTROL
+}
+
+// The control bits granted of those requested; the support DWORD does not count.
+pub fn granted_bits(b: Bridge, support: u32, requested: u32) -> u32
+    ensures { λ r. ⌜ r ≡ grantedOf b support requested ⌝ }
+{
+    let met = needs_met(b.held | (requested & b.permitted));
+    requested & KNOWN_CONTROL & (b.held | (b.permitted & met))
+}
+
+// Whether any requested bit is not granted, as a status.
+fn grant_status(requested: u32, granted: u32) -> u32
+    ensures { λ r. ⌜ r ≡ grantStatus requested granted ⌝ }
+{
+    if requested & granted == requested {
+        return 0;
+    }
+    0x10
+}
+
+// A status, and zeros to the end.
+fn write_error(answer: &mut [u8], status: u32)
+    requires { ⌜ 4 ≤ length (now answer) ⌝ }
+    ensures { λ _. ⌜ now (answer .exit) ≡ le32 status ++ replicate (length (now (answer .entry)) - 4) 0 ⌝ }
+{
+    words::clear(answer);
+    words::write32(answer, 0, status);
+}
+
+// Status, support and control: the whole buffer.
+fn write_granted(answer: &mut [u8], status: u32, support: u32, control: u32)
+    requires { ⌜ length (now answer) ≡ 12 ⌝ }
+    ensures { λ _. ⌜ now (answer .exit) ≡ le32 status ++ le32 support ++ le32 control ⌝ }
+{
+    words::write32(answer, 0, status);
+    words::write32(answer, 4, support);
+    words::write32(answer, 8, control);
+}
+
+// What the bridge holds after a recognised call: a query adds nothing.
+fn added(b: Bridge, caps: &[u8], support: u32, granted: u32) -> Holding
+    requires { ⌜ (4 ≤ length (now caps)) × (support ≡ supportOf (now caps)) × (granted ≡ grantedOf b support (control (now caps))) ⌝ }
+    ensures { λ r. ⌜ r ≡ cond (query (now (caps .entry))) (holding b) (joined b (now (caps .entry))) ⌝ }
+{
+    if is_query(caps) {
+        return Holding {
+            held: b.held,
+            supported: b.supported,
+        };
+    }
+    Holding {
+        held: b.held | granted,
+        supported: b.supported | (support & KNOWN_SUPPORT),
+    }
+}
+
+// An _OSC call that none of 1, 2 and 3 refuses: the answer buffer is filled; what the bridge holds after it is handed back.
+pub fn respond(
+    b: Bridge,
+    revision: u32,
+    count: u32,
+    uuid: &[u8],
+    caps: &[u8],
+    answer: &mut [u8],
+) -> Holding
+    requires { ⌜ framingBad count (now uuid) (now caps) (now answer) ≡ false ⌝ }
+    ensures { λ r. ⌜ (now (answer .exit) ≡ oscAnswer b revision count (now (uuid .entry)) (now (caps .entry)))
+        × (r ≡ oscAfter b revision count (now (uuid .entry)) (now (caps .entry))) ⌝ }
+{
+    let error = error_status(revision, count, uuid);
+    if error != 0 {
+        write_error(answer, error);
+        return Holding {
+            held: b.held,
+            supported: b.supported,
+        };
+    }
+    let support = words::read32(caps, 4);
+    let requested = words::read32(caps, 8);
+    let granted = granted_bits(b, support, requested);
+    write_granted(answer, grant_status(requested, granted), support, granted);
+    added(b, caps, support, granted)
+}
