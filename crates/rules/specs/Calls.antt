@@ -126,10 +126,17 @@ abbrev pub outcomeBy : ℕ → Bridge → Operation → Outcome
 outcomeBy zero b o = accepted b o
 outcomeBy (suc k) b o = outcome (suc k) (zeros o) (lent o)
 
--- the row after the call
+-- the row by the number
 abbrev pub bridgeBy : ℕ → Bridge → Operation → Bridge
 bridgeBy zero b o = withHolding b (after b o)
 bridgeBy (suc k) b o = b
+
+-- the outcome of the call, and the row after it
+abbrev pub outcomeAt : (bridges : ℕ) → SessionNumber → BridgeNumber → Bridge → Operation → Outcome
+outcomeAt bridges s n b o = outcomeBy (numberAt bridges s n b o) b o
+
+abbrev pub rowAfter : (bridges : ℕ) → SessionNumber → BridgeNumber → Bridge → Operation → Bridge
+rowAfter bridges s n b o = bridgeBy (numberAt bridges s n b o) b o
 
 -- ---- locate
 
@@ -165,8 +172,7 @@ pub record Step : Type 0 where
 unfoldable pub step : Table → Call → Step
 step t (on s n o) =
     let b = bridgeAt t (n .0) in
-    let k = numberAt (t .count) s n b o in
-    record { outcome = outcomeBy k b o; table = withBridge t (n .0) (bridgeBy k b o) }
+    record { outcome = outcomeAt (t .count) s n b o; table = withBridge t (n .0) (rowAfter (t .count) s n b o) }
 step t (locate s a) = record { outcome = locateIn (fixed t) s a; table = t }
 
 -- the refusals listed for a call, in its order

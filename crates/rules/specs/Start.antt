@@ -17,6 +17,7 @@ use Rattle.rules.specs.Osc.{knownControl}
 use Rattle.rules.specs.declared.Bridge.{Bridge}
 use Rattle.rules.specs.declared.BridgeKind.{BridgeKind}
 use Rattle.rules.specs.declared.BridgeKind.the-variants.{Express, Conventional}
+use Rattle.rules.specs.declared.BridgeNumber.{BridgeNumber}
 use Rattle.rules.specs.declared.BridgeRow.{BridgeRow}
 use Rattle.rules.specs.declared.Table.{Table}
 use Rattle.rules.specs.declared.Entry.{Entry}
@@ -105,3 +106,7 @@ pub record Sound (t : Table) : Type 0 where
   pub windows-apart : (i j : ℕ) → i < t .count → j < t .count → (i ≡ j → ⊥)
       → (a : ℕ) → inWindow a (bridgeAt t i) ≡ true → inWindow a (bridgeAt t j) ≡ true → ⊥
   pub window-ends : (i : ℕ) → i < t .count → busEnd (bridgeAt t i .base) (bridgeAt t i .«last_bus») ≤ 2 ^ 64
+
+-- the same of one row that a call is handed, whose bridge number may be absent
+abbrev pub RowSound : (bridges : ℕ) → BridgeNumber → Bridge → Type 0
+RowSound bridges n b = n .0 < bridges → busEnd (b .base) (b .«last_bus») ≤ 2 ^ 64

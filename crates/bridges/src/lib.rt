@@ -1,0 +1,2 @@
+// The core by value: start, each call on one row, and the calls on the whole table.
+pub mod row;

@@ -1,0 +1,179 @@
+// Each call on one row of the table, by value: the number of bridges and the row in, the answer and the row out. Every refusal is made here.
+use rules::Bridge;
+use rules::BridgeNumber;
+use rules::Holding;
+use rules::SessionNumber;
+ghost use mathlib.Core.Path.{_≡_};
+ghost use mathlib.Core.List.{[], _∷_};
+ghost use Rattle.rules.specs.Start.{RowSound};
+ghost use Rattle.rules.specs.Calls.{
+  osc,
+  reset,
+  report,
+  address,
+  nothing,
+  reported,
+  addressed,
+  outcome,
+  numberAt,
+  outcomeAt,
+  rowAfter,
+};
+
+// A number, and the row after the call.
+#[repr(C)]
+pub struct RowDone {
+    pub number: u8,
+    pub row: Bridge,
+}
+
+#[repr(C)]
+pub struct Reported {
+    pub number: u8,
+    pub holding: Holding,
+}
+
+#[repr(C)]
+pub struct Addressed {
+    pub number: u8,
+    pub address: u64,
+}
+
+// Refusals 1 and 2, which are those of reset and of report.
+fn refusal(bridges: usize, row: Bridge, s: SessionNumber, n: BridgeNumber) -> u8
+    ensures { λ r. ⌜ r ≡ numberAt bridges s n row reset ⌝ }
+{
+    let i = n.0 as usize;
+    if bridges <= i {
+        return 1;
+    }
+    if row.owner.0 != s.0 {
+        return 2;
+    }
+    0
+}
+
+pub fn reset(bridges: usize, row: Bridge, s: SessionNumber, n: BridgeNumber) -> RowDone
+    ensures { λ r. ⌜ (outcome (r .number) nothing [] ≡ outcomeAt bridges s n row reset) × (r .row ≡ rowAfter bridges s n row reset) ⌝ }
+{
+    let number = refusal(bridges, row, s, n);
+    let mut next = row;
+    if number == 0 {
+        next.held = 0;
+        next.supported = 0;
+    }
+    RowDone { number, row: next }
+}
+
+pub fn report(bridges: usize, row: Bridge, s: SessionNumber, n: BridgeNumber) -> Reported
+    ensures { λ r. ⌜ outcome (r .number) (reported (r .holding)) [] ≡ outcomeAt bridges s n row report ⌝ }
+{
+    let number = refusal(bridges, row, s, n);
+    let mut holding = Holding {
+        held: 0,
+        supported: 0,
+    };
+    if number == 0 {
+        holding.held = row.held;
+        holding.supported = row.supported;
+    }
+    Reported { number, holding }
+}
+
+// Refusals 1, 2 and 3; the revision refuses nothing.
+fn osc_refusal(
+    bridges: usize,
+    row: Bridge,
+    s: SessionNumber,
+    n: BridgeNumber,
+    count: u32,
+    uuid: &[u8],
+    caps: &[u8],
+    answer: &[u8],
+) -> u8
+    ensures { λ r. ⌜ r ≡ numberAt bridges s n row (osc 1 count (now (uuid .entry)) (now (caps .entry)) (now (answer .entry))) ⌝ }
+{
+    let number = refusal(bridges, row, s, n);
+    if number != 0 {
+        return number;
+    }
+    if osc::framing_bad(count, uuid, caps, answer) {
+        return 3;
+    }
+    0
+}
+
+// _OSC: the answer buffer is filled, or left as it was lent.
+pub fn osc(
+    bridges: usize,
+    row: Bridge,
+    s: SessionNumber,
+    n: BridgeNumber,
+    revision: u32,
+    count: u32,
+    uuid: &[u8],
+    caps: &[u8],
+    answer: &mut [u8],
+) -> RowDone
+    ensures { λ r. ⌜ (outcome (r .number) nothing (now (uuid .entry) ∷ now (caps .entry) ∷ now (answer .exit) ∷ [])
+        ≡ outcomeAt bridges s n row (osc revision count (now (uuid .entry)) (now (caps .entry)) (now (answer .entry))))
+        × (r .row ≡ rowAfter bridges s n row (osc revision count (now (uuid .entry)) (now (caps .entry)) (now (answer .entry)))) ⌝ }
+{
+    let number = osc_refusal(bridges, row, s, n, count, uuid, caps, answer);
+    let mut next = row;
+    if number == 0 {
+        let holding = osc::respond(row, revision, count, uuid, caps, answer);
+        next.held = holding.held;
+        next.supported = holding.supported;
+    }
+    RowDone { number, row: next }
+}
+
+// Refusals 1, 2, 5 and 4.
+fn address_refusal(
+    bridges: usize,
+    row: Bridge,
+    s: SessionNumber,
+    n: BridgeNumber,
+    bus: u8,
+    device: u8,
+    function: u8,
+    offset: u16,
+    width: u8,
+) -> u8
+    ensures { λ r. ⌜ r ≡ numberAt bridges s n row (address bus device function offset width) ⌝ }
+{
+    let number = refusal(bridges, row, s, n);
+    if number != 0 {
+        return number;
+    }
+    if ecam::place_bad(device, function, offset, width) {
+        return 5;
+    }
+    if ecam::bus_outside(row, bus) {
+        return 4;
+    }
+    0
+}
+
+pub fn address(
+    bridges: usize,
+    row: Bridge,
+    s: SessionNumber,
+    n: BridgeNumber,
+    bus: u8,
+    device: u8,
+    function: u8,
+    offset: u16,
+    width: u8,
+) -> Addressed
+    requires { ⌜ RowSound bridges n row ⌝ }
+    ensures { λ r. ⌜ outcome (r .number) (addressed (r .address)) [] ≡ outcomeAt bridges s n row (address bus device function offset width) ⌝ }
+{
+    let number = address_refusal(bridges, row, s, n, bus, device, function, offset, width);
+    if number != 0 {
+        return Addressed { number, address: 0 };
+    }
+    let address = ecam::address_of(row, bus, device, function, offset, width);
+    Addressed { number: 0, address }
+}
