@@ -5,6 +5,7 @@ use rules::Holding;
 use rules::SessionNumber;
 ghost use mathlib.Core.Path.{_≡_};
 ghost use mathlib.Core.List.{[], _∷_};
+ghost use Rattle.rules.specs.Place.{ownWindow};
 ghost use Rattle.rules.specs.Start.{RowSound};
 ghost use Rattle.rules.specs.Calls.{
   osc,
@@ -176,4 +177,14 @@ pub fn address(
     }
     let address = ecam::address_of(row, bus, device, function, offset, width);
     Addressed { number: 0, address }
+}
+
+// Whether an address lies in the bridge, which is of the session.
+pub fn own_window(row: Bridge, s: SessionNumber, address: u64) -> bool
+    ensures { λ r. ⌜ r ≡ ownWindow s address row ⌝ }
+{
+    if row.owner.0 != s.0 {
+        return false;
+    }
+    ecam::in_window(row, address)
 }

@@ -9,22 +9,26 @@ mul-result : tie.Need-mul-result
 mul-result c = search needs
 
 add-result : tie.Need-add-result
-add-result c = omega (arith, sum-below (c .before .args .b) (c .before .args .bus) (c .before .args .device) (c .before .args .function) (c .before .args .offset) (c .before .args .width) (c .before .pre))
+add-result c =
+    omega (arith, sum-below (c .before .args .b) (c .before .args .bus) (c .before .args .device) (c .before .args .function) (c .before .args .offset) (c .before .args .width) (c .before .pre))
 
 mul-result-2 : tie.Need-mul-result-2
 mul-result-2 c = search needs
 
 add-result-2 : tie.Need-add-result-2
-add-result-2 c = omega (arith, sum-below (c .before .args .b) (c .before .args .bus) (c .before .args .device) (c .before .args .function) (c .before .args .offset) (c .before .args .width) (c .before .pre))
+add-result-2 c =
+    omega (arith, sum-below (c .before .args .b) (c .before .args .bus) (c .before .args .device) (c .before .args .function) (c .before .args .offset) (c .before .args .width) (c .before .pre))
 
 mul-result-3 : tie.Need-mul-result-3
 mul-result-3 c = search needs
 
 add-result-3 : tie.Need-add-result-3
-add-result-3 c = omega (arith, sum-below (c .before .args .b) (c .before .args .bus) (c .before .args .device) (c .before .args .function) (c .before .args .offset) (c .before .args .width) (c .before .pre))
+add-result-3 c =
+    omega (arith, sum-below (c .before .args .b) (c .before .args .bus) (c .before .args .device) (c .before .args .function) (c .before .args .offset) (c .before .args .width) (c .before .pre))
 
 add-result-4 : tie.Need-add-result-4
-add-result-4 c = omega (arith, sum-below (c .before .args .b) (c .before .args .bus) (c .before .args .device) (c .before .args .function) (c .before .args .offset) (c .before .args .width) (c .before .pre))
+add-result-4 c =
+    omega (arith, sum-below (c .before .args .b) (c .before .args .bus) (c .before .args .device) (c .before .args .function) (c .before .args .offset) (c .before .args .width) (c .before .pre))
 
 returns : tie.Need-returns
 returns c = search needs

@@ -14,7 +14,8 @@ cast-result-2 : tie.Need-cast-result-2
 cast-result-2 c = search needs
 
 returns-2 : tie.Need-returns-2
-returns-2 c = by-distance (c .before .before .before .before .before .args .b) (c .before .before .before .before .before .args .address) (c .before .before .before .if1 .left)
+returns-2 c =
+    by-distance (c .before .before .before .before .before .args .b) (c .before .before .before .before .before .args .address) (c .before .before .before .if1 .left)
 
 pub in-window-spec : {M : Type 1} → statement M
 in-window-spec = tie.close (tie.spec returns cast-result cast-result-2 returns-2)

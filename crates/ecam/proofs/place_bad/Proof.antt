@@ -8,7 +8,8 @@ misaligned-requires : tie.Need-misaligned-requires
 misaligned-requires c κs = search needs
 
 returns : tie.Need-returns
-returns c = bad-place (c .before .args .device) (c .before .args .function) (c .before .args .offset) (c .before .args .width) (c .misaligned .result) (c .misaligned .ensures)
+returns c =
+    bad-place (c .before .args .device) (c .before .args .function) (c .before .args .offset) (c .before .args .width) (c .misaligned .result) (c .misaligned .ensures)
 
 pub place-bad-spec : {M : Type 1} → statement M
 place-bad-spec = tie.close (tie.spec misaligned-requires returns)

@@ -15,11 +15,13 @@ returns c = simp (sym (c .before .before .is-uuid .ensures), c .before .if1 .tak
 
 returns-2 : tie.Need-returns-2
 unfolding recognised
-returns-2 c = simp (sym (c .before .before .before .is-uuid .ensures), c .before .before .if1 .taken, eq-eqb _ _ (c .before .if2 .left), ne-eqb _ _ (c .if3 .taken))
+returns-2 c =
+    simp (sym (c .before .before .before .is-uuid .ensures), c .before .before .if1 .taken, eq-eqb _ _ (c .before .if2 .left), ne-eqb _ _ (c .if3 .taken))
 
 returns-3 : tie.Need-returns-3
 unfolding recognised
-returns-3 c = simp (sym (c .before .before .before .is-uuid .ensures), c .before .before .if1 .taken, eq-eqb _ _ (c .before .if2 .left), eq-eqb _ _ (c .if3 .left))
+returns-3 c =
+    simp (sym (c .before .before .before .is-uuid .ensures), c .before .before .if1 .taken, eq-eqb _ _ (c .before .if2 .left), eq-eqb _ _ (c .if3 .left))
 
 returns-4 : tie.Need-returns-4
 unfolding recognised

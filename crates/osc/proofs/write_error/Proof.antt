@@ -15,7 +15,8 @@ same-length : tie.Need-same-length
 same-length c = search needs
 
 returns : tie.Need-returns
-returns c = status-written (now (c .before .before .before .before .before .before .before .before .before .args .answer)) _ (c .before .before .before .before .before .before .clear .last .0) _ (c .before .before .before .before .before .before .clear .ensures) (c .before .before .write32 .ensures)
+returns c =
+    status-written (now (c .before .before .before .before .before .before .before .before .before .args .answer)) _ (c .before .before .before .before .before .before .clear .last .0) _ (c .before .before .before .before .before .before .clear .ensures) (c .before .before .write32 .ensures)
 
 pub write-error-spec : {M : Type 1} → statement M
 write-error-spec = tie.close (tie.spec clear-requires write32-requires same-length returns)

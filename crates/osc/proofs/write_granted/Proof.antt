@@ -18,7 +18,8 @@ same-length : tie.Need-same-length
 same-length c = search needs
 
 returns : tie.Need-returns
-returns c = three-written (now (c .before .before .before .before .before .before .before .before .before .before .before .before .before .args .answer)) _ _ _ (c .before .before .before .before .before .before .before .before .before .before .write32 .last .0) (c .before .before .before .before .before .before .write322 .last .0) _ (c .before .before .before .before .before .before .before .before .before .before .before .before .before .pre) (c .before .before .before .before .before .before .before .before .before .before .write32 .ensures) (c .before .before .before .before .before .before .write322 .ensures) (c .before .before .write323 .ensures)
+returns c =
+    three-written (now (c .before .before .before .before .before .before .before .before .before .before .before .before .before .args .answer)) _ _ _ (c .before .before .before .before .before .before .before .before .before .before .write32 .last .0) (c .before .before .before .before .before .before .write322 .last .0) _ (c .before .before .before .before .before .before .before .before .before .before .before .before .before .pre) (c .before .before .before .before .before .before .before .before .before .before .write32 .ensures) (c .before .before .before .before .before .before .write322 .ensures) (c .before .before .write323 .ensures)
 
 pub write-granted-spec : {M : Type 1} → statement M
 write-granted-spec =

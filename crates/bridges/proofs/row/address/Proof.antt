@@ -12,13 +12,23 @@ address-refusal-requires : tie.Need-address-refusal-requires
 address-refusal-requires c κs = search needs
 
 returns : tie.Need-returns
-returns c = let a = c .before .before in let f = c .before .address-refusal in outcome-refused (a .args .row) (address (a .args .bus) (a .args .device) (a .args .function) (a .args .offset) (a .args .width)) (f .result) _ (f .ensures) (c .if1 .taken)
+returns c =
+    let a = c .before .before in
+    let f = c .before .address-refusal in
+    outcome-refused (a .args .row) (address (a .args .bus) (a .args .device) (a .args .function) (a .args .offset) (a .args .width)) (f .result) _ (f .ensures) (c .if1 .taken)
 
 address-of-requires : tie.Need-address-of-requires
-address-of-requires c κs = let a = c .before .before in let f = c .before .address-refusal in place-good (a .args .bridges) (a .args .s) (a .args .n) (a .args .row) (a .args .bus) (a .args .device) (a .args .function) (a .args .offset) (a .args .width) (f .result) (a .pre) (f .ensures) (c .if1 .left)
+address-of-requires c κs =
+    let a = c .before .before in
+    let f = c .before .address-refusal in
+    place-good (a .args .bridges) (a .args .s) (a .args .n) (a .args .row) (a .args .bus) (a .args .device) (a .args .function) (a .args .offset) (a .args .width) (f .result) (a .pre) (f .ensures) (c .if1 .left)
 
 returns-2 : tie.Need-returns-2
-returns-2 c = let a = c .before .before .before in let f = c .before .before .address-refusal in ap (λ (j : ℕ). outcome j (addressed (c .address-of .result)) []) (sym (c .before .if1 .left)) ∙ outcome-done (a .args .row) (address (a .args .bus) (a .args .device) (a .args .function) (a .args .offset) (a .args .width)) (f .result) _ (f .ensures) (addressed (c .address-of .result)) [] (c .before .if1 .left) (ap (λ (x : ℕ). outcome 0 (addressed x) []) (c .address-of .ensures))
+returns-2 c =
+    let a = c .before .before .before in
+    let f = c .before .before .address-refusal in
+    ap (λ (j : ℕ). outcome j (addressed (c .address-of .result)) []) (sym (c .before .if1 .left))
+    ∙ outcome-done (a .args .row) (address (a .args .bus) (a .args .device) (a .args .function) (a .args .offset) (a .args .width)) (f .result) _ (f .ensures) (addressed (c .address-of .result)) [] (c .before .if1 .left) (ap (λ (x : ℕ). outcome 0 (addressed x) []) (c .address-of .ensures))
 
 pub address-spec : {M : Type 1} → statement M
 address-spec = tie.close (tie.spec address-refusal-requires returns address-of-requires returns-2)

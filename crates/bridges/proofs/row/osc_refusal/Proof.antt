@@ -14,16 +14,27 @@ refusal-requires : tie.Need-refusal-requires
 refusal-requires c κs = search needs
 
 returns : tie.Need-returns
-returns c = let a = c .before .before .before .before .before .args in let f = framingBad (a .count) (now (a .uuid)) (now (a .caps)) (now (a .answer)) in first-two (absent (a .bridges) (a .n)) (foreign (a .s) (a .row)) ((3 if f) ∷ []) (c .before .refusal .result) (c .before .refusal .ensures) (c .if1 .taken)
+returns c =
+    let a = c .before .before .before .before .before .args in
+    let f = framingBad (a .count) (now (a .uuid)) (now (a .caps)) (now (a .answer)) in
+    first-two (absent (a .bridges) (a .n)) (foreign (a .s) (a .row)) ((3 if f) ∷ []) (c .before .refusal .result) (c .before .refusal .ensures) (c .if1 .taken)
 
 framing-bad-requires : tie.Need-framing-bad-requires
 framing-bad-requires c κs = search needs
 
 returns-2 : tie.Need-returns-2
-returns-2 c = let a = c .before .before .before .before .before .before .before .args in let f = framingBad (a .count) (now (a .uuid)) (now (a .caps)) (now (a .answer)) in given 3 f [] (sym (c .before .framing-bad .ensures) ∙ c .if2 .taken) ∙ past-two (absent (a .bridges) (a .n)) (foreign (a .s) (a .row)) ((3 if f) ∷ []) (c .before .before .before .refusal .result) (c .before .before .before .refusal .ensures) (c .before .before .if1 .left)
+returns-2 c =
+    let a = c .before .before .before .before .before .before .before .args in
+    let f = framingBad (a .count) (now (a .uuid)) (now (a .caps)) (now (a .answer)) in
+    given 3 f [] (sym (c .before .framing-bad .ensures) ∙ c .if2 .taken)
+    ∙ past-two (absent (a .bridges) (a .n)) (foreign (a .s) (a .row)) ((3 if f) ∷ []) (c .before .before .before .refusal .result) (c .before .before .before .refusal .ensures) (c .before .before .if1 .left)
 
 returns-3 : tie.Need-returns-3
-returns-3 c = let a = c .before .before .before .before .before .before .before .args in let f = framingBad (a .count) (now (a .uuid)) (now (a .caps)) (now (a .answer)) in passed 3 f [] (sym (c .before .framing-bad .ensures) ∙ c .if2 .left) ∙ past-two (absent (a .bridges) (a .n)) (foreign (a .s) (a .row)) ((3 if f) ∷ []) (c .before .before .before .refusal .result) (c .before .before .before .refusal .ensures) (c .before .before .if1 .left)
+returns-3 c =
+    let a = c .before .before .before .before .before .before .before .args in
+    let f = framingBad (a .count) (now (a .uuid)) (now (a .caps)) (now (a .answer)) in
+    passed 3 f [] (sym (c .before .framing-bad .ensures) ∙ c .if2 .left)
+    ∙ past-two (absent (a .bridges) (a .n)) (foreign (a .s) (a .row)) ((3 if f) ∷ []) (c .before .before .before .refusal .result) (c .before .before .before .refusal .ensures) (c .before .before .if1 .left)
 
 pub osc-refusal-spec : {M : Type 1} → statement M
 osc-refusal-spec =

@@ -12,10 +12,16 @@ refusal-requires : tie.Need-refusal-requires
 refusal-requires c κs = search needs
 
 returns : tie.Need-returns
-returns c = let a = c .before .before in let f = c .before .refusal in outcome-done (a .args .row) report (f .result) _ (f .ensures) (reported (holding (a .args .row))) [] (c .if1 .taken) refl
+returns c =
+    let a = c .before .before in
+    let f = c .before .refusal in
+    outcome-done (a .args .row) report (f .result) _ (f .ensures) (reported (holding (a .args .row))) [] (c .if1 .taken) refl
 
 returns-2 : tie.Need-returns-2
-returns-2 c = let a = c .before .before in let f = c .before .refusal in outcome-refused (a .args .row) report (f .result) _ (f .ensures) (c .if1 .left)
+returns-2 c =
+    let a = c .before .before in
+    let f = c .before .refusal in
+    outcome-refused (a .args .row) report (f .result) _ (f .ensures) (c .if1 .left)
 
 pub report-spec : {M : Type 1} → statement M
 report-spec = tie.close (tie.spec refusal-requires returns returns-2)

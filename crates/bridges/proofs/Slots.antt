@@ -1,0 +1,68 @@
+-- A call on the row in a bridge number's place of the array is the call on the table: the remainder finds the bridge that the table has, and another number is refused.
+use Prim.Native.Nat.{ℕ, zero, suc, _%_, _^_, _≤_, _<_}
+use mathlib.Core.Path.{_≡_, refl, sym, ap, subst, _∙_}
+use mathlib.Core.Bool.{true}
+use native.Mathlib.Decide.{decLt}
+use native.Mathlib.Nat.{mod-eq-of-lt}
+use native.Mathlib.Omega.{arith}
+use borrow.Author.Tests.{le-leb}
+use Rattle.rules.specs.Tables.{holding, withHolding, bridgeAt, withBridge}
+use Rattle.rules.specs.Mcfg.{busEnd}
+use Rattle.rules.specs.Start.{Sound, RowSound}
+use Rattle.rules.specs.Calls.{Operation, osc, reset, report, address, registerValues, Call, on, after, absent, numberAt, outcomeBy, bridgeBy, outcomeAt, rowAfter, step}
+use Rattle.rules.specs.declared.Bridge.{Bridge}
+use Rattle.rules.specs.declared.BridgeNumber.{BridgeNumber}
+use Rattle.rules.specs.declared.SessionNumber.{SessionNumber}
+use Rattle.rules.specs.declared.Table.{Table}
+use Rattle.rules.proofs.Local.{same-bridge}
+
+-- a number that the table has not is refused with 1, whatever is asked
+absent-number : (bridges : ℕ) (s : SessionNumber) (n : BridgeNumber) (b : Bridge) (o : Operation) → absent bridges n ≡ true → numberAt bridges s n b o ≡ 1
+absent-number bridges s n b (osc revision count uuid caps answer) e = rw e
+absent-number bridges s n b reset e = rw e
+absent-number bridges s n b report e = rw e
+absent-number bridges s n b (address bus device function offset width) e = rw e
+absent-number bridges s n b (registerValues slot block current) e = rw e
+
+module _ (t : Table) (rows : ℕ) (few : t .count ≤ rows) (s : SessionNumber) (n : BridgeNumber) (o : Operation) where
+  abbrev slot : ℕ
+  slot = n .0 % rows
+
+  -- the place of a bridge that the table has is its number
+  there : n .0 < t .count → slot ≡ n .0
+  there h = mod-eq-of-lt (omega arith)
+
+  refused : t .count ≤ n .0 → (i : ℕ) → numberAt (t .count) s n (bridgeAt t i) o ≡ 1
+  refused h i = absent-number (t .count) s n (bridgeAt t i) o (le-leb (t .count) (n .0) h)
+
+  pub slot-outcome : outcomeAt (t .count) s n (bridgeAt t slot) o ≡ step t (on s n o) .outcome
+  unfolding step
+  slot-outcome = elim (decLt (n .0) (t .count)) [ yes h ↦ ap (λ (i : ℕ). outcomeAt (t .count) s n (bridgeAt t i) o) (there h) | no h ↦ out (omega arith) ]
+    where
+      out : t .count ≤ n .0 → outcomeAt (t .count) s n (bridgeAt t slot) o ≡ outcomeAt (t .count) s n (bridgeAt t (n .0)) o
+      out h =
+          ap (λ (k : ℕ). outcomeBy k (bridgeAt t slot) o) (refused h slot)
+          ∙ sym (ap (λ (k : ℕ). outcomeBy k (bridgeAt t (n .0)) o) (refused h (n .0)))
+
+  pub slot-table : withBridge t slot (rowAfter (t .count) s n (bridgeAt t slot) o) ≡ step t (on s n o) .table
+  unfolding step
+  slot-table = elim (decLt (n .0) (t .count)) [ yes h ↦ ap (λ (i : ℕ). withBridge t i (rowAfter (t .count) s n (bridgeAt t i) o)) (there h) | no h ↦ out (omega arith) ]
+    where
+      kept : (i : ℕ) → t .count ≤ n .0 → withBridge t i (rowAfter (t .count) s n (bridgeAt t i) o) ≡ t
+      kept i h = ap (λ (k : ℕ). withBridge t i (bridgeBy k (bridgeAt t i) o)) (refused h i) ∙ same-bridge t i
+
+      out : t .count ≤ n .0 → withBridge t slot (rowAfter (t .count) s n (bridgeAt t slot) o) ≡ withBridge t (n .0) (rowAfter (t .count) s n (bridgeAt t (n .0)) o)
+      out h = kept slot h ∙ sym (kept (n .0) h)
+
+  -- an operation that leaves what the bridge holds leaves the table
+  pub table-kept : ((b : Bridge) → after b o ≡ holding b) → t ≡ step t (on s n o) .table
+  unfolding step
+  table-kept f = sym (ap (withBridge t (n .0)) (go (numberAt (t .count) s n (bridgeAt t (n .0)) o)) ∙ same-bridge t (n .0))
+    where
+      go : (k : ℕ) → bridgeBy k (bridgeAt t (n .0)) o ≡ bridgeAt t (n .0)
+      go zero = ap (withHolding (bridgeAt t (n .0))) (f (bridgeAt t (n .0)))
+      go (suc k) = refl
+
+  -- the row in the place is sound where the table is
+  pub slot-sound : Sound t → RowSound (t .count) n (bridgeAt t slot)
+  slot-sound h l = subst (λ (i : ℕ). busEnd (bridgeAt t i .base) (bridgeAt t i .«last_bus») ≤ 2 ^ 64) (sym (there l)) (h .window-ends (n .0) l)
