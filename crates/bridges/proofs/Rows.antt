@@ -1,5 +1,5 @@
 -- What an operation on one row gives, by its number; the first number of a list, test by test.
-use Prim.Native.Nat.{ℕ, zero, suc, _≤_, _<_, _^_}
+use Prim.Native.Nat.{ℕ, zero, suc}
 use mathlib.Core.Path.{_≡_, refl, sym, ap, _∙_}
 use mathlib.Core.Bool.{Bool, true, false, not}
 use mathlib.Core.List.{List, [], _∷_}
@@ -7,7 +7,6 @@ use native.Mathlib.Omega.{arith}
 use borrow.Author.Tests.{leb-false}
 use Rattle.rules.specs.Refusals.{Refusal, _if_, firstOf}
 use Rattle.rules.specs.Tables.{withHolding}
-use Rattle.rules.specs.Mcfg.{busEnd}
 use Rattle.rules.specs.Place.{placeBad, busOutside}
 use Rattle.rules.specs.Osc.{framingBad}
 use Rattle.rules.specs.Start.{RowSound}
@@ -16,6 +15,8 @@ use Rattle.rules.specs.declared.Bridge.{Bridge}
 use Rattle.rules.specs.declared.BridgeNumber.{BridgeNumber}
 use Rattle.rules.specs.declared.SessionNumber.{SessionNumber}
 use Rattle.rules.proofs.Refusals.{clear}
+use Rattle.ecam.specs.Fits.{PlaceFits}
+use Rattle.ecam.proofs.Windows.{tests-left}
 
 -- ---- the first number of a list
 
@@ -78,7 +79,7 @@ module _ (bridges : ℕ) (s : SessionNumber) (n : BridgeNumber) (b : Bridge) whe
       clear ((1 if absent bridges n) ∷ (2 if foreign s b) ∷ (3 if framingBad count uuid caps answer) ∷ []) (omega arith) (sym e ∙ z) .1 .1 .0
 
   pub place-good : (bus device function offset width k : ℕ) → RowSound bridges n b → k ≡ numberAt bridges s n b (address bus device function offset width) → k ≡ 0
-      → (placeBad device function offset width ≡ false) × (busOutside b bus ≡ false) × (busEnd (b .base) (b .«last_bus») ≤ 2 ^ 64)
+      → PlaceFits b bus device function offset
   place-good bus device function offset width k w e z =
       let c = clear ((1 if absent bridges n) ∷ (2 if foreign s b) ∷ (5 if placeBad device function offset width) ∷ (4 if busOutside b bus) ∷ []) (omega arith) (sym e ∙ z) in
-      (c .1 .1 .0, c .1 .1 .1 .0, w (leb-false bridges (n .0) (c .0)))
+      tests-left b bus device function offset width (c .1 .1 .0) (c .1 .1 .1 .0) (w (leb-false bridges (n .0) (c .0)))

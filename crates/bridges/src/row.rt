@@ -175,7 +175,7 @@ pub fn address(
     if number != 0 {
         return Addressed { number, address: 0 };
     }
-    let address = ecam::address_of(row, bus, device, function, offset, width);
+    let address = ecam::address_of(row, bus, device, function, offset);
     Addressed { number: 0, address }
 }
 

@@ -10,6 +10,7 @@ use Rattle.rules.specs.Place.{placeBad, busOutside, inWindow}
 use Rattle.rules.specs.declared.Bridge.{Bridge}
 use Rattle.rules.proofs.Tests.{and-true, and-is, or-false, same-test}
 use Rattle.rules.proofs.Reach.{place-fits}
+use Rattle.ecam.specs.Fits.{PlaceFits}
 
 -- an address below the base is in no window of it
 pub below-base : (b : Bridge) (a : ℕ) → a < b .base → false ≡ inWindow a b
@@ -48,15 +49,20 @@ in-buses b a e =
     let r = ltb-true a (busEnd (b .base) (b .«last_bus»)) (p .1) in
     record { from = omega arith; last = omega arith }
 
--- the sum of an address lies below the window's end
-pub sum-below : (b : Bridge) (bus device function offset width : ℕ)
-    → (placeBad device function offset width ≡ false) × (busOutside b bus ≡ false) × (busEnd (b .base) (b .«last_bus») ≤ 2 ^ 64)
-    → b .base + bus * 1048576 + device * 32768 + function * 4096 + offset < 18446744073709551616
-sum-below b bus device function offset width h =
-    let f = place-fits device function offset width (h .0) in
-    let l = ltb-false (b .«last_bus») bus (or-false (ltb bus (b .«first_bus»)) (ltb (b .«last_bus») bus) (h .1) .1) in
-    let e : b .base + (b .«last_bus» + 1) * 1048576 ≤ 18446744073709551616 = h .2 in
-    omega (arith, f .device-fits, f .function-fits, f .offset-fits)
+-- what the tests of refusals 5 and 4 leave
+pub tests-left : (b : Bridge) (bus device function offset width : ℕ) → placeBad device function offset width ≡ false → busOutside b bus ≡ false
+    → busEnd (b .base) (b .«last_bus») ≤ 2 ^ 64 → PlaceFits b bus device function offset
+tests-left b bus device function offset width p q e =
+    let f = place-fits device function offset width p in
+    let o = or-false (ltb bus (b .«first_bus»)) (ltb (b .«last_bus») bus) q in
+    record {
+      first = ltb-false bus (b .«first_bus») (o .0);
+      last = ltb-false (b .«last_bus») bus (o .1);
+      devices = f .device-fits;
+      functions = f .function-fits;
+      offsets = f .offset-fits;
+      ends = e;
+    }
 
 -- refusal 5, its last two tests found together
 pub bad-place : (device function offset width : ℕ) (m : Bool)

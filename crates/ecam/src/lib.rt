@@ -3,10 +3,10 @@ use rules::Bridge;
 use rules::BridgeNumber;
 use rules::Place;
 ghost use mathlib.Core.Path.{_≡_};
-ghost use mathlib.Core.Bool.{true, false, not, _||_};
-ghost use Prim.Native.Nat.{_%_, _^_, _≤_};
+ghost use mathlib.Core.Bool.{true, not, _||_};
+ghost use Prim.Native.Nat.{_%_};
 ghost use lib.Dec.{eqb};
-ghost use Rattle.rules.specs.Mcfg.{busEnd};
+ghost use Rattle.ecam.specs.Fits.{PlaceFits};
 ghost use Rattle.rules.specs.Place.{addressOf, placeBad, busOutside, inWindow, placeOf};
 
 // Whether the width is not 1, 2 or 4, or the offset no multiple of it.
@@ -35,9 +35,9 @@ pub fn bus_outside(b: Bridge, bus: u8) -> bool
     (bus < b.first_bus) | (b.last_bus < bus)
 }
 
-// The address of a place that is neither of the two, in a window that ends at 2^64 at most.
-pub fn address_of(b: Bridge, bus: u8, device: u8, function: u8, offset: u16, width: u8) -> u64
-    requires { ⌜ (placeBad device function offset width ≡ false) × (busOutside b bus ≡ false) × (busEnd (b .base) (b .«last_bus») ≤ 2 ^ 64) ⌝ }
+// The address of a place that neither refuses, in a window that ends at 2^64 at most.
+pub fn address_of(b: Bridge, bus: u8, device: u8, function: u8, offset: u16) -> u64
+    requires { ⌜ PlaceFits b bus device function offset ⌝ }
     ensures { λ r. ⌜ r ≡ addressOf b bus device function offset ⌝ }
 {
     b.base
