@@ -1,20 +1,25 @@
 -- What an operation on one row gives, by its number; the first number of a list, test by test.
 use Prim.Native.Nat.{ℕ, zero, suc}
-use mathlib.Core.Path.{_≡_, refl, sym, ap, _∙_}
+use mathlib.Core.Path.{_≡_, refl, sym, ap, ap₂, _∙_}
 use mathlib.Core.Bool.{Bool, true, false, not}
-use mathlib.Core.List.{List, [], _∷_}
+use mathlib.Core.List.{List, [], _∷_, _++_}
+use mathlib.Core.Option.{Option, none, some}
 use native.Mathlib.Omega.{arith}
 use borrow.Author.Tests.{leb-false}
 use Rattle.rules.specs.Refusals.{Refusal, _if_, firstOf}
 use Rattle.rules.specs.Tables.{withHolding}
 use Rattle.rules.specs.Place.{placeBad, busOutside}
+use Rattle.rules.specs.Numbers.{bit}
 use Rattle.rules.specs.Osc.{framingBad}
+use Rattle.rules.specs.Records.{deciding, recordIn, registersBad}
 use Rattle.rules.specs.Start.{RowSound}
-use Rattle.rules.specs.Calls.{Operation, osc, address, Result, outcome, absent, foreign, accepted, zeros, lent, after, numberAt, outcomeBy, bridgeBy}
+use Rattle.rules.specs.Calls.{Operation, osc, address, registerValues, Result, values, outcome, valuesBy, absent, foreign, accepted, zeros, lent, after, numberAt, outcomeBy, bridgeBy}
 use Rattle.rules.specs.declared.Bridge.{Bridge}
+use Rattle.rules.specs.declared.Field.{Field}
 use Rattle.rules.specs.declared.BridgeNumber.{BridgeNumber}
 use Rattle.rules.specs.declared.SessionNumber.{SessionNumber}
-use Rattle.rules.proofs.Refusals.{clear}
+use Rattle.rules.proofs.Refusals.{NoZero, clear}
+use Rattle.hpx.specs.Answers.{valuesAt}
 use Rattle.ecam.specs.Fits.{PlaceFits}
 use Rattle.ecam.proofs.Windows.{tests-left}
 
@@ -29,23 +34,20 @@ pub passed : (n : ℕ) (q : Bool) (l : List Refusal) → q ≡ false → firstOf
 passed n true l e = cc
 passed n false l e = refl
 
--- 1 and 2, and then the rest of the list
-module _ (p q : Bool) (l : List Refusal) (k : ℕ) (e : k ≡ firstOf ((1 if p) ∷ (2 if q) ∷ [])) where
-  pub first-two : (k ≡ 0 → ⊥) → k ≡ firstOf ((1 if p) ∷ (2 if q) ∷ l)
-  first-two n = go p q e
-    where
-      go : (p q : Bool) → k ≡ firstOf ((1 if p) ∷ (2 if q) ∷ []) → k ≡ firstOf ((1 if p) ∷ (2 if q) ∷ l)
-      go true q e = e
-      go false true e = e
-      go false false e = absurd (n e)
+-- the front of a list, and then its rest
+pub front : (l m : List Refusal) (k : ℕ) → k ≡ firstOf l → (k ≡ 0 → ⊥) → k ≡ firstOf (l ++ m)
+front [] m k e n = absurd (n e)
+front ((j if true) ∷ l) m k e n = e
+front ((j if false) ∷ l) m k e n = front l m k e n
 
-  pub past-two : k ≡ 0 → firstOf l ≡ firstOf ((1 if p) ∷ (2 if q) ∷ l)
-  past-two z = go p q (sym z ∙ e)
-    where
-      go : (p q : Bool) → 0 ≡ firstOf ((1 if p) ∷ (2 if q) ∷ []) → firstOf l ≡ firstOf ((1 if p) ∷ (2 if q) ∷ l)
-      go true q e = absurd (omega arith)
-      go false true e = absurd (omega arith)
-      go false false e = refl
+pub past : (l m : List Refusal) → NoZero l → (k : ℕ) → k ≡ firstOf l → k ≡ 0 → firstOf m ≡ firstOf (l ++ m)
+past [] m h k e z = refl
+past ((j if true) ∷ l) m h k e z = absurd (h .0 (sym e ∙ z))
+past ((j if false) ∷ l) m h k e z = past l m (h .1) k e z
+
+-- 1 and 2 stand first in every list
+abbrev pub firstTwo : (bridges : ℕ) → SessionNumber → BridgeNumber → Bridge → List Refusal
+firstTwo bridges s n b = (1 if absent bridges n) ∷ (2 if foreign s b) ∷ []
 
 -- ---- the outcome and the row by the number that was found
 
@@ -83,3 +85,27 @@ module _ (bridges : ℕ) (s : SessionNumber) (n : BridgeNumber) (b : Bridge) whe
   place-good bus device function offset width k w e z =
       let c = clear ((1 if absent bridges n) ∷ (2 if foreign s b) ∷ (5 if placeBad device function offset width) ∷ (4 if busOutside b bus) ∷ []) (omega arith) (sym e ∙ z) in
       tests-left b bus device function offset width (c .1 .1 .0) (c .1 .1 .1 .0) (w (leb-false bridges (n .0) (c .0)))
+
+  -- 11 and 10 stand before 8 and 9
+  abbrev pub firstFour : List ℕ → List Refusal
+  firstFour current = (1 if absent bridges n) ∷ (2 if foreign s b) ∷ (11 if not (bit (b .held) 0)) ∷ (10 if registersBad current) ∷ []
+
+  pub registers-good : (current : List ℕ) (k : ℕ) → k ≡ firstOf (firstFour current) → k ≡ 0 → registersBad current ≡ false
+  registers-good current k e z = clear (firstFour current) (omega arith) (sym e ∙ z) .1 .1 .1 .0
+
+-- the new values, or zeros, by the number of the record search
+pub values-outcome : (b : Bridge) (slot block current : List ℕ) (aer : Bool) (k m j : ℕ) (v : List ℕ) → aer ≡ bit (b .held) 3 → k ≡ m → m ≡ j
+    → v ≡ valuesAt m aer (deciding slot block) current (recordIn (deciding slot block) 2)
+    → outcome k (values v) (slot ∷ block ∷ current ∷ []) ≡ outcomeBy j b (registerValues slot block current)
+values-outcome b slot block current aer k m j v a e f g =
+    ap₂ (λ (n : ℕ) (w : List ℕ). outcome n (values w) (slot ∷ block ∷ current ∷ [])) e (g ∙ ap (λ (q : Bool). valuesAt m q (deciding slot block) current (recordIn (deciding slot block) 2)) a)
+    ∙ go m ∙ ap (λ (n : ℕ). outcomeBy n b (registerValues slot block current)) f
+  where
+    some-or-none : (o : Option Field) → valuesAt 0 (bit (b .held) 3) (deciding slot block) current o ≡ valuesBy b (deciding slot block) current o
+    some-or-none none = refl
+    some-or-none (some x) = refl
+
+    go : (m : ℕ) → outcome m (values (valuesAt m (bit (b .held) 3) (deciding slot block) current (recordIn (deciding slot block) 2))) (slot ∷ block ∷ current ∷ [])
+        ≡ outcomeBy m b (registerValues slot block current)
+    go zero = ap (λ (w : List ℕ). outcome 0 (values w) (slot ∷ block ∷ current ∷ [])) (some-or-none (recordIn (deciding slot block) 2))
+    go (suc m) = refl

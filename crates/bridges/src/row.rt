@@ -1,21 +1,30 @@
 // Each call on one row of the table, by value: the number of bridges and the row in, the answer and the row out. Every refusal is made here.
+use hpx::Values;
 use rules::Bridge;
 use rules::BridgeNumber;
 use rules::Holding;
 use rules::SessionNumber;
 ghost use mathlib.Core.Path.{_≡_};
 ghost use mathlib.Core.List.{[], _∷_};
+ghost use mathlib.Core.Bool.{not};
+ghost use Rattle.rules.specs.Numbers.{bit};
+ghost use Rattle.rules.specs.Refusals.{_if_, firstOf};
 ghost use Rattle.rules.specs.Place.{ownWindow};
+ghost use Rattle.rules.specs.Records.{registersBad};
 ghost use Rattle.rules.specs.Start.{RowSound};
 ghost use Rattle.rules.specs.Calls.{
   osc,
   reset,
   report,
   address,
+  registerValues,
   nothing,
   reported,
   addressed,
+  values,
   outcome,
+  absent,
+  foreign,
   numberAt,
   outcomeAt,
   rowAfter,
@@ -177,6 +186,64 @@ pub fn address(
     }
     let address = ecam::address_of(row, bus, device, function, offset);
     Addressed { number: 0, address }
+}
+
+// Whether the bridge holds a control bit: 0 is Express hot plug, 3 is AER.
+fn holds_hot_plug(row: Bridge) -> bool
+    ensures { λ r. ⌜ r ≡ bit (row .held) 0 ⌝ }
+{
+    row.held & 0x01 != 0
+}
+
+fn holds_aer(row: Bridge) -> bool
+    ensures { λ r. ⌜ r ≡ bit (row .held) 3 ⌝ }
+{
+    row.held & 0x08 != 0
+}
+
+// Refusals 1, 2, 11 and 10; 8 and 9 come after them.
+fn values_refusal(
+    bridges: usize,
+    row: Bridge,
+    s: SessionNumber,
+    n: BridgeNumber,
+    current: &[u32],
+) -> u8
+    ensures { λ r. ⌜ r ≡ firstOf ((1 if absent bridges n) ∷ (2 if foreign s row) ∷ (11 if not (bit (row .held) 0)) ∷ (10 if registersBad (now (current .entry))) ∷ []) ⌝ }
+{
+    let number = refusal(bridges, row, s, n);
+    if number != 0 {
+        return number;
+    }
+    if holds_hot_plug(row) {
+        if hpx::registers_bad(current) {
+            return 10;
+        }
+        return 0;
+    }
+    11
+}
+
+pub fn register_values<'a>(
+    bridges: usize,
+    row: Bridge,
+    s: SessionNumber,
+    n: BridgeNumber,
+    slot: &'a [u8],
+    block: &'a [u8],
+    current: &[u32],
+) -> Values
+    ensures { λ r. ⌜ outcome (r .number) (values (r .values)) (now (slot .entry) ∷ now (block .entry) ∷ now (current .entry) ∷ [])
+        ≡ outcomeAt bridges s n row (registerValues (now (slot .entry)) (now (block .entry)) (now (current .entry))) ⌝ }
+{
+    let number = values_refusal(bridges, row, s, n, current);
+    if number != 0 {
+        return Values {
+            number,
+            values: [0; 8],
+        };
+    }
+    hpx::register_values(slot, block, current, holds_aer(row))
 }
 
 // Whether an address lies in the bridge, which is of the session.

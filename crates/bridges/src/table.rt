@@ -3,6 +3,7 @@
 use crate::row;
 use crate::row::Addressed;
 use crate::row::Reported;
+use hpx::Values;
 use rules::BridgeNumber;
 use rules::MAX_ROWS;
 use rules::Place;
@@ -17,12 +18,14 @@ ghost use Rattle.rules.specs.Calls.{
   reset,
   report,
   address,
+  registerValues,
   on,
   locate,
   nothing,
   reported,
   addressed,
   located,
+  values,
   outcome,
   step,
 };
@@ -125,6 +128,23 @@ pub fn address(
         offset,
         width,
     )
+}
+
+pub fn register_values<'a>(
+    t: Table,
+    s: SessionNumber,
+    n: BridgeNumber,
+    slot: &'a [u8],
+    block: &'a [u8],
+    current: &[u32],
+) -> Values
+    requires { ⌜ Sound t ⌝ }
+    ensures { λ r. ⌜ (outcome (r .number) (values (r .values)) (now (slot .entry) ∷ now (block .entry) ∷ now (current .entry) ∷ [])
+        ≡ step t (on s n (registerValues (now (slot .entry)) (now (block .entry)) (now (current .entry)))) .outcome)
+        × (t ≡ step t (on s n (registerValues (now (slot .entry)) (now (block .entry)) (now (current .entry)))) .table) ⌝ }
+{
+    let i = (n.0 as usize) % MAX_ROWS;
+    row::register_values(t.count, t.bridges[i], s, n, slot, block, current)
 }
 
 // Refusal 4 of locate.

@@ -3,8 +3,8 @@ use mathlib.Core.Path.{_∙_, sym}
 use mathlib.Core.List.{[], _∷_}
 use Rattle.rules.specs.Refusals.{_if_}
 use Rattle.rules.specs.Place.{placeBad, busOutside}
-use Rattle.rules.specs.Calls.{absent, foreign}
-use Rattle.bridges.proofs.Rows.{given, passed, first-two, past-two}
+use Rattle.bridges.proofs.Rows.{given, passed, front, past, firstTwo}
+use native.Mathlib.Omega.{arith}
 use borrow.Author.Needs.{needs}
 use Rattle.bridges.proofs.row.address_refusal.Statement.{statement}
 use Rattle.bridges.proofs.row.address_refusal.Tie as tie
@@ -17,7 +17,7 @@ returns c =
     let a = c .before .before .args in
     let p = placeBad (a .device) (a .function) (a .offset) (a .width) in
     let q = busOutside (a .row) (a .bus) in
-    first-two (absent (a .bridges) (a .n)) (foreign (a .s) (a .row)) ((5 if p) ∷ (4 if q) ∷ []) (c .before .refusal .result) (c .before .refusal .ensures) (c .if1 .taken)
+    front (firstTwo (a .bridges) (a .s) (a .n) (a .row)) ((5 if p) ∷ (4 if q) ∷ []) (c .before .refusal .result) (c .before .refusal .ensures) (c .if1 .taken)
 
 place-bad-requires : tie.Need-place-bad-requires
 place-bad-requires c κs = search needs
@@ -28,7 +28,7 @@ returns-2 c =
     let p = placeBad (a .device) (a .function) (a .offset) (a .width) in
     let q = busOutside (a .row) (a .bus) in
     given 5 p ((4 if q) ∷ []) (sym (c .before .place-bad .ensures) ∙ c .if2 .taken)
-    ∙ past-two (absent (a .bridges) (a .n)) (foreign (a .s) (a .row)) ((5 if p) ∷ (4 if q) ∷ []) (c .before .before .before .refusal .result) (c .before .before .before .refusal .ensures) (c .before .before .if1 .left)
+    ∙ past (firstTwo (a .bridges) (a .s) (a .n) (a .row)) ((5 if p) ∷ (4 if q) ∷ []) (omega arith) (c .before .before .before .refusal .result) (c .before .before .before .refusal .ensures) (c .before .before .if1 .left)
 
 bus-outside-requires : tie.Need-bus-outside-requires
 bus-outside-requires c κs = search needs
@@ -40,7 +40,7 @@ returns-3 c =
     let q = busOutside (a .row) (a .bus) in
     given 4 q [] (sym (c .before .bus-outside .ensures) ∙ c .if3 .taken)
     ∙ passed 5 p ((4 if q) ∷ []) (sym (c .before .before .before .place-bad .ensures) ∙ c .before .before .if2 .left)
-    ∙ past-two (absent (a .bridges) (a .n)) (foreign (a .s) (a .row)) ((5 if p) ∷ (4 if q) ∷ []) (c .before .before .before .before .before .refusal .result) (c .before .before .before .before .before .refusal .ensures) (c .before .before .before .before .if1 .left)
+    ∙ past (firstTwo (a .bridges) (a .s) (a .n) (a .row)) ((5 if p) ∷ (4 if q) ∷ []) (omega arith) (c .before .before .before .before .before .refusal .result) (c .before .before .before .before .before .refusal .ensures) (c .before .before .before .before .if1 .left)
 
 returns-4 : tie.Need-returns-4
 returns-4 c =
@@ -49,7 +49,7 @@ returns-4 c =
     let q = busOutside (a .row) (a .bus) in
     passed 4 q [] (sym (c .before .bus-outside .ensures) ∙ c .if3 .left)
     ∙ passed 5 p ((4 if q) ∷ []) (sym (c .before .before .before .place-bad .ensures) ∙ c .before .before .if2 .left)
-    ∙ past-two (absent (a .bridges) (a .n)) (foreign (a .s) (a .row)) ((5 if p) ∷ (4 if q) ∷ []) (c .before .before .before .before .before .refusal .result) (c .before .before .before .before .before .refusal .ensures) (c .before .before .before .before .if1 .left)
+    ∙ past (firstTwo (a .bridges) (a .s) (a .n) (a .row)) ((5 if p) ∷ (4 if q) ∷ []) (omega arith) (c .before .before .before .before .before .refusal .result) (c .before .before .before .before .before .refusal .ensures) (c .before .before .before .before .if1 .left)
 
 pub address-refusal-spec : {M : Type 1} → statement M
 address-refusal-spec =

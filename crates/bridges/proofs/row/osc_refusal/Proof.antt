@@ -4,8 +4,8 @@ use mathlib.Core.Path.{_∙_, sym}
 use mathlib.Core.List.{[], _∷_}
 use Rattle.rules.specs.Refusals.{_if_}
 use Rattle.rules.specs.Osc.{framingBad}
-use Rattle.rules.specs.Calls.{absent, foreign}
-use Rattle.bridges.proofs.Rows.{given, passed, first-two, past-two}
+use Rattle.bridges.proofs.Rows.{given, passed, front, past, firstTwo}
+use native.Mathlib.Omega.{arith}
 use borrow.Author.Needs.{needs}
 use Rattle.bridges.proofs.row.osc_refusal.Statement.{statement}
 use Rattle.bridges.proofs.row.osc_refusal.Tie as tie
@@ -17,7 +17,7 @@ returns : tie.Need-returns
 returns c =
     let a = c .before .before .before .before .before .args in
     let f = framingBad (a .count) (now (a .uuid)) (now (a .caps)) (now (a .answer)) in
-    first-two (absent (a .bridges) (a .n)) (foreign (a .s) (a .row)) ((3 if f) ∷ []) (c .before .refusal .result) (c .before .refusal .ensures) (c .if1 .taken)
+    front (firstTwo (a .bridges) (a .s) (a .n) (a .row)) ((3 if f) ∷ []) (c .before .refusal .result) (c .before .refusal .ensures) (c .if1 .taken)
 
 framing-bad-requires : tie.Need-framing-bad-requires
 framing-bad-requires c κs = search needs
@@ -27,14 +27,14 @@ returns-2 c =
     let a = c .before .before .before .before .before .before .before .args in
     let f = framingBad (a .count) (now (a .uuid)) (now (a .caps)) (now (a .answer)) in
     given 3 f [] (sym (c .before .framing-bad .ensures) ∙ c .if2 .taken)
-    ∙ past-two (absent (a .bridges) (a .n)) (foreign (a .s) (a .row)) ((3 if f) ∷ []) (c .before .before .before .refusal .result) (c .before .before .before .refusal .ensures) (c .before .before .if1 .left)
+    ∙ past (firstTwo (a .bridges) (a .s) (a .n) (a .row)) ((3 if f) ∷ []) (omega arith) (c .before .before .before .refusal .result) (c .before .before .before .refusal .ensures) (c .before .before .if1 .left)
 
 returns-3 : tie.Need-returns-3
 returns-3 c =
     let a = c .before .before .before .before .before .before .before .args in
     let f = framingBad (a .count) (now (a .uuid)) (now (a .caps)) (now (a .answer)) in
     passed 3 f [] (sym (c .before .framing-bad .ensures) ∙ c .if2 .left)
-    ∙ past-two (absent (a .bridges) (a .n)) (foreign (a .s) (a .row)) ((3 if f) ∷ []) (c .before .before .before .refusal .result) (c .before .before .before .refusal .ensures) (c .before .before .if1 .left)
+    ∙ past (firstTwo (a .bridges) (a .s) (a .n) (a .row)) ((3 if f) ∷ []) (omega arith) (c .before .before .before .refusal .result) (c .before .before .before .refusal .ensures) (c .before .before .if1 .left)
 
 pub osc-refusal-spec : {M : Type 1} → statement M
 osc-refusal-spec =

@@ -1,0 +1,21 @@
+-- `hpx::registers_bad` meets its contract: the test of the length picks the case, and the two registers are then there to read. Assumes nothing.
+use borrow.Author.Needs.{needs}
+use borrow.Author.Tests.{eq-eqb, ne-eqb}
+use Rattle.hpx.proofs.registers_bad.Statement.{statement}
+use Rattle.hpx.proofs.registers_bad.Tie as tie
+
+returns : tie.Need-returns
+returns c = simp (ne-eqb _ _ (c .if1 .taken))
+
+shared-slice-read-result : tie.Need-shared-slice-read-result
+shared-slice-read-result c = search needs
+
+shared-slice-read-result-2 : tie.Need-shared-slice-read-result-2
+shared-slice-read-result-2 c = search needs
+
+returns-2 : tie.Need-returns-2
+returns-2 c = simp (eq-eqb _ _ (c .before .before .if1 .left))
+
+pub registers-bad-spec : {M : Type 1} → statement M
+registers-bad-spec =
+    tie.close (tie.spec returns shared-slice-read-result shared-slice-read-result-2 returns-2)

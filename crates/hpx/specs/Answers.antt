@@ -1,0 +1,32 @@
+-- Document 01, "Refusal numbers" and "Record blocks and register values": what the searches answer.
+use Prim.Native.Nat.{ℕ, zero, suc}
+use mathlib.Core.Bool.{Bool, cond}
+use mathlib.Core.List.{List}
+use mathlib.Core.Option.{Option, none, some}
+use lib.Dec.{eqb}
+use lib.ListN.{take, drop, replicate}
+use Rattle.rules.specs.Records.{andMask, orMask, foundBy, andOr, newValues}
+use Rattle.rules.specs.declared.Field.{Field}
+use Rattle.rules.specs.declared.Found.{Found}
+
+-- "A refused call hands back zeros (or the empty part) beside its number"
+abbrev pub refused : ℕ → Found
+refused n = record { number = n; start = 0; size = 0 }
+
+-- a record of the asked type is what the search gives; any other field leaves what it has
+abbrev pub choice : (type : ℕ) → Field → Found → Found
+choice type f found = cond (eqb (f .tag) type) (foundBy 0 (some f)) found
+
+-- the part of a block that a search gives
+abbrev pub part : Found → List ℕ → List ℕ
+part r l = take (r .size) (drop (r .start) l)
+
+-- register k stays, or is "(current AND mask) OR mask" by its pair of the record
+abbrev pub keptOrNew : (stays : Bool) → List ℕ → Field → (k current : ℕ) → ℕ
+keptOrNew stays l f k current = cond stays current (andOr current (andMask l f k) (orMask l f k))
+
+-- by the number: 0 hands back the new values, any other zeros
+abbrev pub valuesAt : ℕ → (aerHeld : Bool) → List ℕ → (current : List ℕ) → Option Field → List ℕ
+valuesAt zero aerHeld l current none = replicate 8 0
+valuesAt zero aerHeld l current (some f) = newValues aerHeld l f 0 current
+valuesAt (suc k) aerHeld l current o = replicate 8 0
