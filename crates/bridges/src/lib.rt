@@ -1,3 +1,182 @@
-// The core by value: start, each call on one row, and the calls on the whole table.
-pub mod row;
-pub mod table;
+// The calls on the whole table, by value: each is the call on one row, with the row stored back. The index stays inside the array; the call on the row refuses a bridge
+// that the table has not.
+use hpx::Values;
+use rows::Addressed;
+use rows::Reported;
+use rules::BridgeNumber;
+use rules::MAX_ROWS;
+use rules::Place;
+use rules::SessionNumber;
+use rules::Table;
+ghost use mathlib.Core.Path.{_≡_};
+ghost use mathlib.Core.List.{[], _∷_};
+ghost use Rattle.rules.specs.Place.{noPlace};
+ghost use Rattle.rules.specs.Start.{Sound};
+ghost use Rattle.rules.specs.Calls.{
+  osc,
+  reset,
+  report,
+  address,
+  registerValues,
+  on,
+  locate,
+  nothing,
+  reported,
+  addressed,
+  located,
+  values,
+  outcome,
+  step,
+};
+
+// A number, and the table after the call.
+pub struct TableDone {
+    pub number: u8,
+    pub table: Table,
+}
+
+// A number, and the place of an address.
+#[repr(C)]
+pub struct Located {
+    pub number: u8,
+    pub place: Place,
+}
+
+pub fn reset(t: Table, s: SessionNumber, n: BridgeNumber) -> TableDone
+    requires { ⌜ Sound t ⌝ }
+    ensures { λ r. ⌜ (outcome (r .number) nothing [] ≡ step t (on s n reset) .outcome) × (r .table ≡ step t (on s n reset) .table) ⌝ }
+{
+    let i = (n.0 as usize) % MAX_ROWS;
+    let done = rows::reset(t.count, t.bridges[i], s, n);
+    let row = done.row;
+    let mut table = t;
+    table.bridges[i] = row;
+    TableDone {
+        number: done.number,
+        table,
+    }
+}
+
+pub fn report(t: Table, s: SessionNumber, n: BridgeNumber) -> Reported
+    requires { ⌜ Sound t ⌝ }
+    ensures { λ r. ⌜ (outcome (r .number) (reported (r .holding)) [] ≡ step t (on s n report) .outcome) × (t ≡ step t (on s n report) .table) ⌝ }
+{
+    let i = (n.0 as usize) % MAX_ROWS;
+    rows::report(t.count, t.bridges[i], s, n)
+}
+
+pub fn osc(
+    t: Table,
+    s: SessionNumber,
+    n: BridgeNumber,
+    revision: u32,
+    count: u32,
+    uuid: &[u8],
+    caps: &[u8],
+    answer: &mut [u8],
+) -> TableDone
+    requires { ⌜ Sound t ⌝ }
+    ensures { λ r. ⌜ (outcome (r .number) nothing (now (uuid .entry) ∷ now (caps .entry) ∷ now (answer .exit) ∷ [])
+        ≡ step t (on s n (osc revision count (now (uuid .entry)) (now (caps .entry)) (now (answer .entry)))) .outcome)
+        × (r .table ≡ step t (on s n (osc revision count (now (uuid .entry)) (now (caps .entry)) (now (answer .entry)))) .table) ⌝ }
+{
+    let i = (n.0 as usize) % MAX_ROWS;
+    let done = rows::osc(
+        t.count,
+        t.bridges[i],
+        s,
+        n,
+        revision,
+        count,
+        uuid,
+        caps,
+        answer,
+    );
+    let row = done.row;
+    let mut table = t;
+    table.bridges[i] = row;
+    TableDone {
+        number: done.number,
+        table,
+    }
+}
+
+pub fn address(
+    t: Table,
+    s: SessionNumber,
+    n: BridgeNumber,
+    bus: u8,
+    device: u8,
+    function: u8,
+    offset: u16,
+    width: u8,
+) -> Addressed
+    requires { ⌜ Sound t ⌝ }
+    ensures { λ r. ⌜ (outcome (r .number) (addressed (r .address)) [] ≡ step t (on s n (address bus device function offset width)) .outcome)
+        × (t ≡ step t (on s n (address bus device function offset width)) .table) ⌝ }
+{
+    let i = (n.0 as usize) % MAX_ROWS;
+    rows::address(
+        t.count,
+        t.bridges[i],
+        s,
+        n,
+        bus,
+        device,
+        function,
+        offset,
+        width,
+    )
+}
+
+pub fn register_values<'a>(
+    t: Table,
+    s: SessionNumber,
+    n: BridgeNumber,
+    slot: &'a [u8],
+    block: &'a [u8],
+    current: &[u32],
+) -> Values
+    requires { ⌜ Sound t ⌝ }
+    ensures { λ r. ⌜ (outcome (r .number) (values (r .values)) (now (slot .entry) ∷ now (block .entry) ∷ now (current .entry) ∷ [])
+        ≡ step t (on s n (registerValues (now (slot .entry)) (now (block .entry)) (now (current .entry)))) .outcome)
+        × (t ≡ step t (on s n (registerValues (now (slot .entry)) (now (block .entry)) (now (current .entry)))) .table) ⌝ }
+{
+    let i = (n.0 as usize) % MAX_ROWS;
+    rows::register_values(t.count, t.bridges[i], s, n, slot, block, current)
+}
+
+// Refusal 4 of locate.
+fn no_place() -> Located
+    ensures { λ r. ⌜ (r .number ≡ 4) × (r .place ≡ noPlace) ⌝ }
+{
+    let bridge = BridgeNumber(0);
+    let place = Place {
+        bridge,
+        bus: 0,
+        device: 0,
+        function: 0,
+        offset: 0,
+    };
+    Located { number: 4, place }
+}
+
+// The first bridge of the session whose window has the address; windows of one table share no byte.
+pub fn locate(t: Table, s: SessionNumber, address: u64) -> Located
+    requires { ⌜ Sound t ⌝ }
+    ensures { λ r. ⌜ (outcome (r .number) (located (r .place)) [] ≡ step t (locate s address) .outcome) × (t ≡ step t (locate s address) .table) ⌝ }
+{
+    let mut i = 0;
+    while i < t.count {
+        let b = t.bridges[i];
+        if rows::own_window(b, s, address) {
+            let n = BridgeNumber(i as u8);
+            return Located {
+                number: 0,
+                place: ecam::place_of(n, b, address),
+            };
+        }
+        i += 1;
+    }
+    no_place()
+}

@@ -1,0 +1,37 @@
+-- `bridges::address` meets its contract: the call on the row in its place is the call on the table, which stays.
+use Prim.Native.Nat.{_%_}
+use mathlib.Core.Path.{refl, _∙_}
+use Rattle.rules.specs.Limits.{maxRows}
+use Rattle.rules.specs.Calls.{address}
+use Rattle.bridges.proofs.Slots.{slot-outcome, slot-sound, table-kept}
+use borrow.Author.Needs.{needs}
+use Rattle.bridges.proofs.address.Statement.{statement}
+use Rattle.bridges.proofs.address.Tie as tie
+
+cast-i : tie.Need-cast-i
+cast-i c = search needs
+
+mul-address : tie.Need-mul-address
+mul-address c = search needs
+
+element-copy-out-address : tie.Need-element-copy-out-address
+element-copy-out-address c = search needs
+
+address-requires : tie.Need-address-requires
+unfolding maxRows
+address-requires c κs =
+    let a = c .before .before in
+    slot-sound (a .args .t1) maxRows (a .pre .few) (a .args .s) (a .args .n) (address (a .args .bus) (a .args .device) (a .args .function) (a .args .offset) (a .args .width)) (a .pre)
+
+returns : tie.Need-returns
+unfolding maxRows
+returns c =
+    let a = c .before .before .before in
+    let o = address (a .args .bus) (a .args .device) (a .args .function) (a .args .offset) (a .args .width) in (
+      c .address .ensures ∙ slot-outcome (a .args .t1) maxRows (a .pre .few) (a .args .s) (a .args .n) o,
+      table-kept (a .args .t1) maxRows (a .pre .few) (a .args .s) (a .args .n) o (λ b. refl),
+    )
+
+pub address-spec : {M : Type 1} → statement M
+address-spec =
+    tie.close (tie.spec cast-i mul-address element-copy-out-address address-requires returns)

@@ -1,0 +1,44 @@
+-- `rows::register_values` meets its contract: 1, 2, 11 and 10 are `values_refusal`'s; 8, 9 and the values are the record search's.
+use denote.Ref.{now}
+use native.Mathlib.Omega.{arith}
+use Rattle.rules.specs.Records.{recordRefusals}
+use Rattle.rules.specs.Calls.{registerValues}
+use Rattle.rows.proofs.ByNumber.{front, past, firstFour, outcome-refused, registers-good, values-outcome}
+use borrow.Author.Needs.{needs}
+use Rattle.rows.proofs.register_values.Statement.{statement}
+use Rattle.rows.proofs.register_values.Tie as tie
+
+values-refusal-requires : tie.Need-values-refusal-requires
+values-refusal-requires c κs = search needs
+
+returns : tie.Need-returns
+returns c =
+    let a = c .before .before .before .before .before .args in
+    let f = c .before .values-refusal in
+    outcome-refused (a .row) (registerValues (now (a .slot)) (now (a .block)) (now (a .current))) (f .result) _ (front (firstFour (a .bridges) (a .s) (a .n) (a .row) (now (a .current))) (recordRefusals (now (a .slot)) (now (a .block)) 2) (f .result) (f .ensures) (c .if1 .taken)) (c .if1 .taken)
+
+holds-aer-requires : tie.Need-holds-aer-requires
+holds-aer-requires c κs = search needs
+
+register-values-requires : tie.Need-register-values-requires
+register-values-requires c κs =
+    let a = c .before .before .before .before .before .before .args in
+    let f = c .before .before .values-refusal in
+    registers-good (a .bridges) (a .s) (a .n) (a .row) (now (a .current)) (f .result) (f .ensures) (c .before .if1 .left)
+
+returns-2 : tie.Need-returns-2
+returns-2 c =
+    let a = c .before .before .before .before .before .before .before .args in
+    let f = c .before .before .before .values-refusal in
+    let v = c .register-values in
+    values-outcome (a .row) (now (a .slot)) (now (a .block)) (now (a .current)) (c .before .holds-aer .result) (v .result .number) _ _ (v .result .values) (c .before .holds-aer .ensures) (v .ensures .0) (past (firstFour (a .bridges) (a .s) (a .n) (a .row) (now (a .current))) (recordRefusals (now (a .slot)) (now (a .block)) 2) (omega arith) (f .result) (f .ensures) (c .before .before .if1 .left)) (v .ensures .1)
+
+pub register-values-spec : {M : Type 1} → statement M
+register-values-spec =
+    tie.close
+    (tie.spec
+    values-refusal-requires
+    returns
+    holds-aer-requires
+    register-values-requires
+    returns-2)
