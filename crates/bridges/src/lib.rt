@@ -81,20 +81,11 @@ pub fn osc(
         × (r .table ≡ step t (on s n (osc revision count (now (uuid .entry)) (now (caps .entry)) (now (answer .entry)))) .table) ⌝ }
 {
     let i = (n.0 as usize) % MAX_ROWS;
-    let done = rows::osc(
-        t.count,
-        t.bridges[i],
-        s,
-        n,
-        revision,
-        count,
-        uuid,
-        caps,
-        answer,
-    );
-    let row = done.row;
+    let b = t.bridges[i];
+    let done = rows::osc(t.count, b, s, n, revision, count, uuid, caps, answer);
+    let next = done.row;
     let mut table = t;
-    table.bridges[i] = row;
+    table.bridges[i] = next;
     TableDone {
         number: done.number,
         table,
@@ -116,17 +107,8 @@ pub fn address(
         × (t ≡ step t (on s n (address bus device function offset width)) .table) ⌝ }
 {
     let i = (n.0 as usize) % MAX_ROWS;
-    rows::address(
-        t.count,
-        t.bridges[i],
-        s,
-        n,
-        bus,
-        device,
-        function,
-        offset,
-        width,
-    )
+    let b = t.bridges[i];
+    rows::address(t.count, b, s, n, bus, device, function, offset, width)
 }
 
 pub fn register_values<'a>(
@@ -168,12 +150,12 @@ pub fn locate(t: Table, s: SessionNumber, address: u64) -> Located
 {
     let mut i = 0;
     while i < t.count {
-        let b = t.bridges[i];
-        if rows::own_window(b, s, address) {
+        let row = t.bridges[i];
+        if rows::own_window(row, s, address) {
             let n = BridgeNumber(i as u8);
             return Located {
                 number: 0,
-                place: ecam::place_of(n, b, address),
+                place: ecam::place_of(n, row, address),
             };
         }
         i += 1;

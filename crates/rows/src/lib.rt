@@ -250,8 +250,8 @@ pub fn register_values<'a>(
 pub fn own_window(row: Bridge, s: SessionNumber, address: u64) -> bool
     ensures { λ r. ⌜ r ≡ ownWindow s address row ⌝ }
 {
-    if row.owner.0 != s.0 {
-        return false;
+    if row.owner.0 == s.0 {
+        return ecam::in_window(row, address);
     }
-    ecam::in_window(row, address)
+    false
 }

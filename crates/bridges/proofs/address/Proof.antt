@@ -1,5 +1,4 @@
 -- `bridges::address` meets its contract: the call on the row in its place is the call on the table, which stays.
-use Prim.Native.Nat.{_%_}
 use mathlib.Core.Path.{refl, _∙_}
 use Rattle.rules.specs.Limits.{maxRows}
 use Rattle.rules.specs.Calls.{address}
@@ -11,11 +10,11 @@ use Rattle.bridges.proofs.address.Tie as tie
 cast-i : tie.Need-cast-i
 cast-i c = search needs
 
-mul-address : tie.Need-mul-address
-mul-address c = search needs
+mul-b : tie.Need-mul-b
+mul-b c = search needs
 
-element-copy-out-address : tie.Need-element-copy-out-address
-element-copy-out-address c = search needs
+element-copy-out-b : tie.Need-element-copy-out-b
+element-copy-out-b c = search needs
 
 address-requires : tie.Need-address-requires
 unfolding maxRows
@@ -33,5 +32,4 @@ returns c =
     )
 
 pub address-spec : {M : Type 1} → statement M
-address-spec =
-    tie.close (tie.spec cast-i mul-address element-copy-out-address address-requires returns)
+address-spec = tie.close (tie.spec cast-i mul-b element-copy-out-b address-requires returns)

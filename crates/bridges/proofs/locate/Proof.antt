@@ -23,13 +23,13 @@ abbrev μ-loop : tie.MeasureT-loop
 loop-holds : tie.Need-loop-holds Inv-loop μ-loop
 loop-holds c = record { within = omega arith; rest = refl }
 
-mul-b : tie.Need-mul-b Inv-loop μ-loop
+mul-row : tie.Need-mul-row Inv-loop μ-loop
 unfolding maxRows
-mul-b c = omega (arith, c .before .before .pre .few)
+mul-row c = omega (arith, c .before .before .pre .few)
 
-element-copy-out-b : tie.Need-element-copy-out-b Inv-loop μ-loop
+element-copy-out-row : tie.Need-element-copy-out-row Inv-loop μ-loop
 unfolding maxRows
-element-copy-out-b c = omega (arith, c .before .before .pre .few)
+element-copy-out-row c = omega (arith, c .before .before .pre .few)
 
 own-window-requires : tie.Need-own-window-requires Inv-loop μ-loop
 own-window-requires c κs = search needs
@@ -84,8 +84,8 @@ locate-spec =
     Inv-loop
     μ-loop
     loop-holds
-    mul-b
-    element-copy-out-b
+    mul-row
+    element-copy-out-row
     own-window-requires
     cast-t14
     place-of-requires

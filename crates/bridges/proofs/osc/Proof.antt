@@ -1,6 +1,6 @@
 -- `bridges::osc` meets its contract: the call on the row in its place is the call on the table.
-use Prim.Native.Nat.{_%_}
 use denote.Ref.{now}
+use Prim.Native.Nat.{_%_}
 use mathlib.Core.Path.{ap, _∙_}
 use Rattle.rules.specs.Limits.{maxRows}
 use Rattle.rules.specs.Tables.{withBridge}
@@ -13,20 +13,20 @@ use Rattle.bridges.proofs.osc.Tie as tie
 cast-i : tie.Need-cast-i
 cast-i c = search needs
 
-mul-osc : tie.Need-mul-osc
-mul-osc c = search needs
+mul-b : tie.Need-mul-b
+mul-b c = search needs
 
-element-copy-out-osc : tie.Need-element-copy-out-osc
-element-copy-out-osc c = search needs
+element-copy-out-b : tie.Need-element-copy-out-b
+element-copy-out-b c = search needs
 
 osc-requires : tie.Need-osc-requires
 osc-requires c κs = search needs
 
-mul-row : tie.Need-mul-row
-mul-row c = search needs
+mul-next : tie.Need-mul-next
+mul-next c = search needs
 
-element-set-from-row : tie.Need-element-set-from-row
-element-set-from-row c = search needs
+element-set-from-next : tie.Need-element-set-from-next
+element-set-from-next c = search needs
 
 same-length : tie.Need-same-length
 same-length c = search needs
@@ -46,10 +46,10 @@ osc-spec =
     tie.close
     (tie.spec
     cast-i
-    mul-osc
-    element-copy-out-osc
+    mul-b
+    element-copy-out-b
     osc-requires
-    mul-row
-    element-set-from-row
+    mul-next
+    element-set-from-next
     same-length
     returns)
