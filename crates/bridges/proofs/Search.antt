@@ -1,6 +1,6 @@
 -- The bridges searched from the first for the one that has an address.
 use Prim.Native.Nat.{ℕ, suc, _+_, _≤_, _<_}
-use mathlib.Core.Path.{_≡_, refl, sym, ap, _∙_}
+use mathlib.Core.Path.{_≡_, sym, ap, _∙_}
 use mathlib.Core.Bool.{Bool, true, false}
 use mathlib.Core.List.{List, [], _∷_}
 use mathlib.Core.Option.{Option, none, some}
@@ -12,7 +12,7 @@ use Rattle.rules.specs.Lists.{find, isNone}
 use Rattle.rules.specs.Tables.{noBridge, bridgeAt, bridgesOf}
 use Rattle.rules.specs.Place.{ownWindow, placeOf, noPlace}
 use Rattle.rules.specs.Start.{Sound}
-use Rattle.rules.specs.Calls.{outcome, located, locate, windowOf, locateRefusals, placeBy, locateBy, step}
+use Rattle.rules.specs.Calls.{outcome, located, locate, windowOf, placeBy, locateBy, step}
 use Rattle.rules.specs.Refusals.{_if_, firstOf}
 use Rattle.rules.specs.declared.Bridge.{Bridge}
 use Rattle.rules.specs.declared.SessionNumber.{SessionNumber}

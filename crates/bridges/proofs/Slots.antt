@@ -9,7 +9,7 @@ use borrow.Author.Tests.{le-leb}
 use Rattle.rules.specs.Tables.{holding, withHolding, bridgeAt, withBridge}
 use Rattle.rules.specs.Mcfg.{busEnd}
 use Rattle.rules.specs.Start.{Sound, RowSound}
-use Rattle.rules.specs.Calls.{Operation, osc, reset, report, address, registerValues, Call, on, after, absent, numberAt, outcomeBy, bridgeBy, outcomeAt, rowAfter, step}
+use Rattle.rules.specs.Calls.{Operation, osc, reset, report, address, registerValues, on, after, absent, numberAt, outcomeBy, bridgeBy, outcomeAt, rowAfter, step}
 use Rattle.rules.specs.declared.Bridge.{Bridge}
 use Rattle.rules.specs.declared.BridgeNumber.{BridgeNumber}
 use Rattle.rules.specs.declared.SessionNumber.{SessionNumber}

@@ -1,10 +1,10 @@
 -- The window of a bridge's buses, by the distance from the base; the sums of an address fit.
-use Prim.Native.Nat.{ℕ, _+_, _-_, _*_, _/_, _%_, _^_, _≤_, _<_}
-use mathlib.Core.Path.{_≡_, refl, sym}
+use Prim.Native.Nat.{ℕ, _-_, _/_, _%_, _^_, _≤_, _<_}
+use mathlib.Core.Path.{_≡_, refl}
 use mathlib.Core.Bool.{Bool, true, false, not, _&&_, _||_}
 use native.Mathlib.Omega.{arith}
 use lib.Dec.{eqb, leb, ltb}
-use borrow.Author.Tests.{leb-true, ltb-true, ltb-false, le-leb, lt-ltb, le-ltb, lt-leb}
+use borrow.Author.Tests.{leb-true, ltb-true, ltb-false, le-leb, lt-ltb, lt-leb}
 use Rattle.rules.specs.Mcfg.{busStart, busEnd}
 use Rattle.rules.specs.Place.{placeBad, busOutside, inWindow}
 use Rattle.rules.specs.declared.Bridge.{Bridge}

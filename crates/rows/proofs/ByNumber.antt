@@ -5,10 +5,10 @@ use mathlib.Core.Bool.{Bool, true, false, not}
 use mathlib.Core.List.{List, [], _∷_, _++_}
 use mathlib.Core.Option.{Option, none, some}
 use native.Mathlib.Omega.{arith}
-use borrow.Author.Tests.{leb-false}
+use borrow.Author.Tests.{leb-false, eq-eqb, ne-eqb}
 use Rattle.rules.specs.Refusals.{Refusal, _if_, firstOf}
 use Rattle.rules.specs.Tables.{withHolding}
-use Rattle.rules.specs.Place.{placeBad, busOutside}
+use Rattle.rules.specs.Place.{placeBad, busOutside, inWindow, ownWindow}
 use Rattle.rules.specs.Numbers.{bit}
 use Rattle.rules.specs.Osc.{framingBad}
 use Rattle.rules.specs.Records.{deciding, recordIn, registersBad}
@@ -109,3 +109,11 @@ values-outcome b slot block current aer k m j v a e f g =
         ≡ outcomeBy m b (registerValues slot block current)
     go zero = ap (λ (w : List ℕ). outcome 0 (values w) (slot ∷ block ∷ current ∷ [])) (some-or-none (recordIn (deciding slot block) 2))
     go (suc m) = refl
+
+-- the window of a bridge of the session, and of any other
+module _ (b : Bridge) (s : SessionNumber) (a : ℕ) where
+  pub own-window : (w : Bool) → b .owner .0 ≡ s .0 → w ≡ inWindow a b → w ≡ ownWindow s a b
+  own-window w o e = rw (eq-eqb (b .owner .0) (s .0) o) e
+
+  pub no-window : (b .owner .0 ≡ s .0 → ⊥) → false ≡ ownWindow s a b
+  no-window n = rw (ne-eqb (b .owner .0) (s .0) n)

@@ -1,5 +1,4 @@
 -- `bridges::report` meets its contract: the call on the row in its place is the call on the table, which stays.
-use Prim.Native.Nat.{_%_}
 use mathlib.Core.Path.{refl, _∙_}
 use Rattle.rules.specs.Limits.{maxRows}
 use Rattle.rules.specs.Calls.{report}

@@ -1,8 +1,4 @@
 -- `osc::is_query` meets its contract: the mask of bit 0 leaves something just where the bit is set.
-use mathlib.Core.Path.{ap, _∙_}
-use mathlib.Core.Bool.{not}
-use lib.Dec.{eqb}
-use lib.Bits.{bitAnd}
 use Rattle.rules.proofs.Bits.{mask-test}
 use borrow.Author.Needs.{needs}
 use Rattle.osc.proofs.is_query.Statement.{statement}

@@ -5,7 +5,6 @@ use mathlib.Core.Path.{ap, _∙_}
 use Prim.Native.Nat.{ℕ}
 use Rattle.rules.specs.Tables.{withHolding}
 use Rattle.rules.specs.Calls.{osc, nothing, outcome}
-use Rattle.rules.specs.declared.Holding.{Holding}
 use Rattle.rows.proofs.ByNumber.{outcome-done, outcome-refused, row-done, row-kept, framing-good}
 use borrow.Author.Needs.{needs}
 use Rattle.rows.proofs.osc.Statement.{statement}

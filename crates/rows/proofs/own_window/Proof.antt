@@ -1,6 +1,6 @@
 -- `rows::own_window` meets its contract: the owner first, then the window.
-use borrow.Author.Tests.{eq-eqb, ne-eqb}
 use borrow.Author.Needs.{needs}
+use Rattle.rows.proofs.ByNumber.{own-window, no-window}
 use Rattle.rows.proofs.own_window.Statement.{statement}
 use Rattle.rows.proofs.own_window.Tie as tie
 
@@ -8,10 +8,14 @@ in-window-requires : tie.Need-in-window-requires
 in-window-requires c κs = search needs
 
 returns : tie.Need-returns
-returns c = simp (eq-eqb _ _ (c .before .if1 .taken)) (c .in-window .ensures)
+returns c =
+    let a = c .before .before .before .before .args in
+    own-window (a .row) (a .s) (a .address) (c .in-window .result) (c .before .if1 .taken) (c .in-window .ensures)
 
 returns-2 : tie.Need-returns-2
-returns-2 c = simp (ne-eqb _ _ (c .if1 .left))
+returns-2 c =
+    let a = c .before .before .before .args in
+    no-window (a .row) (a .s) (a .address) (c .if1 .left)
 
 pub own-window-spec : {M : Type 1} → statement M
 own-window-spec = tie.close (tie.spec in-window-requires returns returns-2)
