@@ -13,7 +13,7 @@ use Rattle.hpx.proofs.find_record.Tie as tie
 fits : (c : tie.After-deciding) → c .before .search .result .start + c .before .search .result .size ≤ length (now (c .deciding .result))
 fits c =
     let a = c .before .before .before .before .args in
-    found-inside (now (a .slot)) (now (a .block)) (a .kind) (c .before .search .result) (c .before .search .ensures) (now (c .deciding .result)) (c .deciding .ensures)
+    found-inside (now (a .slot)) (now (a .block)) _ (c .before .search .result) (c .before .search .ensures) (now (c .deciding .result)) (c .deciding .ensures)
 
 search-requires : tie.Need-search-requires
 search-requires c κs = search needs

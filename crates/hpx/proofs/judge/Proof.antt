@@ -5,15 +5,15 @@ use Rattle.hpx.proofs.judge.Statement.{statement}
 use Rattle.hpx.proofs.judge.Tie as tie
 
 returns : tie.Need-returns
-returns c = simp (lt-ltb _ _ (c .if1 .taken), lt-leb _ _ (c .if1 .taken))
+returns c = simp (lt-ltb 2 _ (c .if1 .taken), lt-leb _ 2 (c .if1 .taken))
 
 returns-2 : tie.Need-returns-2
-returns-2 c = simp (le-ltb _ _ (c .before .before .if1 .left), lt-leb _ _ (c .if2 .taken))
+returns-2 c = simp (le-ltb 2 _ (c .before .before .if1 .left), lt-leb 4 _ (c .if2 .taken))
 
 returns-3 : tie.Need-returns-3
 returns-3 c =
     let e2 = c .before .before in
-    simp (le-ltb _ _ (e2 .before .before .if1 .left), le-leb _ _ (e2 .if2 .left), ne-eqb _ _ (c .if3 .taken))
+    simp (le-ltb 2 _ (e2 .before .before .if1 .left), le-leb 4 _ (e2 .if2 .left), ne-eqb _ 0 (c .if3 .taken))
 
 add-read32 : tie.Need-add-read32
 add-read32 c = search needs
@@ -26,12 +26,12 @@ returns-4 c =
     let e3 = c .before .before .before in
     let e2 = e3 .before .before in
     simp (
-      le-ltb _ _ (e2 .before .before .if1 .left),
-      le-leb _ _ (e2 .before .before .if1 .left),
-      le-leb _ _ (e2 .if2 .left),
-      eq-eqb _ _ (e3 .if3 .left),
+      le-ltb 2 _ (e2 .before .before .if1 .left),
+      le-leb _ 2 (e2 .before .before .if1 .left),
+      le-leb 4 _ (e2 .if2 .left),
+      eq-eqb _ 0 (e3 .if3 .left),
       ← c .before .read32 .ensures,
-      ne-eqb _ _ (c .if4 .taken),
+      ne-eqb _ 1 (c .if4 .taken),
     )
 
 record-size-requires : tie.Need-record-size-requires
@@ -43,11 +43,11 @@ returns-5 c =
     let e3 = e4 .before .before .before in
     let e2 = e3 .before .before in
     simp (
-      le-ltb _ _ (e2 .before .before .if1 .left),
-      le-leb _ _ (e2 .if2 .left),
-      eq-eqb _ _ (e3 .if3 .left),
+      le-ltb 2 _ (e2 .before .before .if1 .left),
+      le-leb 4 _ (e2 .if2 .left),
+      eq-eqb _ 0 (e3 .if3 .left),
       ← e4 .before .read32 .ensures,
-      eq-eqb _ _ (e4 .if4 .left),
+      eq-eqb _ 1 (e4 .if4 .left),
       ← c .before .before .record-size .ensures,
       ne-eqb _ _ (c .if5 .taken),
     )
@@ -62,12 +62,12 @@ returns-6 c =
     let e3 = e4 .before .before .before in
     let e2 = e3 .before .before in
     simp (
-      le-ltb _ _ (e2 .before .before .if1 .left),
-      le-leb _ _ (e2 .before .before .if1 .left),
-      le-leb _ _ (e2 .if2 .left),
-      eq-eqb _ _ (e3 .if3 .left),
+      le-ltb 2 _ (e2 .before .before .if1 .left),
+      le-leb _ 2 (e2 .before .before .if1 .left),
+      le-leb 4 _ (e2 .if2 .left),
+      eq-eqb _ 0 (e3 .if3 .left),
       ← e4 .before .read32 .ensures,
-      eq-eqb _ _ (e4 .if4 .left),
+      eq-eqb _ 1 (e4 .if4 .left),
       ← e5 .before .before .record-size .ensures,
       eq-eqb _ _ (e5 .if5 .left),
       ← c .before .values-sound .ensures,
@@ -81,11 +81,11 @@ returns-7 c =
     let e3 = e4 .before .before .before in
     let e2 = e3 .before .before in
     simp (
-      le-ltb _ _ (e2 .before .before .if1 .left),
-      le-leb _ _ (e2 .if2 .left),
-      eq-eqb _ _ (e3 .if3 .left),
+      le-ltb 2 _ (e2 .before .before .if1 .left),
+      le-leb 4 _ (e2 .if2 .left),
+      eq-eqb _ 0 (e3 .if3 .left),
       ← e4 .before .read32 .ensures,
-      eq-eqb _ _ (e4 .if4 .left),
+      eq-eqb _ 1 (e4 .if4 .left),
       ← e5 .before .before .record-size .ensures,
       eq-eqb _ _ (e5 .if5 .left),
       ← c .before .values-sound .ensures,

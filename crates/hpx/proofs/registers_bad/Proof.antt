@@ -5,7 +5,7 @@ use Rattle.hpx.proofs.registers_bad.Statement.{statement}
 use Rattle.hpx.proofs.registers_bad.Tie as tie
 
 returns : tie.Need-returns
-returns c = simp (ne-eqb _ _ (c .if1 .taken))
+returns c = simp (ne-eqb _ 8 (c .if1 .taken))
 
 shared-slice-read-result : tie.Need-shared-slice-read-result
 shared-slice-read-result c = search needs
@@ -14,7 +14,7 @@ shared-slice-read-result-2 : tie.Need-shared-slice-read-result-2
 shared-slice-read-result-2 c = search needs
 
 returns-2 : tie.Need-returns-2
-returns-2 c = simp (eq-eqb _ _ (c .before .before .if1 .left))
+returns-2 c = simp (eq-eqb _ 8 (c .before .before .if1 .left))
 
 pub registers-bad-spec : {M : Type 1} → statement M
 registers-bad-spec =

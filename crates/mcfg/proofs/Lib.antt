@@ -1,0 +1,3 @@
+pub mod Heads
+pub mod Entries
+pub mod Header

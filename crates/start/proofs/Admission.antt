@@ -1,0 +1,188 @@
+-- Start row by row: the first i rows of a list are sound, apart and in the table; one more row; the whole list.
+-- It serves any loop that admits the rows of a list one after the other.
+-- Assumes nothing.
+use Prim.Native.Nat.{ℕ, _+_, _≤_, _<_}
+use mathlib.Core.Path.{_≡_, refl, sym, ap, ap₂, _∙_}
+use mathlib.Core.Bool.{Bool, true, false, not, cond, _&&_, true≢false}
+use mathlib.Core.List.{List, [], _∷_, _++_, map}
+use native.Mathlib.Numerals.{add-one}
+use native.Mathlib.Omega.{arith}
+use lib.Dec.{leb}
+use lib.ListN.{length, take, getD, set, length-map, length-append}
+use lib.Seq.{take-suc, take-all, length-take-le}
+use borrow.Author.Tests.{le-leb, lt-leb, leb-true, leb-false}
+use Rattle.rules.specs.Limits.{maxRows}
+use Rattle.rules.specs.Lists.{every, pairwise, padded}
+use Rattle.rules.specs.Refusals.{_if_, firstOf}
+use Rattle.rules.specs.Mcfg.{entries, mcfgSound}
+use Rattle.rules.specs.Tables.{noBridge, bridgesOf}
+use Rattle.rules.specs.Start.{StartInput, rowSound, rowsApart, rowsSound, bridgeOf, tableOf, startNumber, startTable}
+use Rattle.rules.specs.declared.Bridge.{Bridge}
+use Rattle.rules.specs.declared.BridgeRow.{BridgeRow}
+use Rattle.rules.specs.declared.Entry.{Entry}
+use Rattle.rules.specs.declared.Table.{Table}
+use Rattle.rules.proofs.Tests.{and-l, and-r, and-is, fails}
+use Rattle.mcfg.proofs.Heads.{shuffle}
+use Rattle.start.specs.Admission.{bridgeApart, admissible, firstNumber, withNext}
+use Rattle.start.proofs.Listing.{every-snoc, pairwise-snoc, padded-snoc, every-take, pairwise-take, padded-take, every-map, map-snoc}
+
+-- ---- one row more
+
+-- 0 is the number of a row that is admitted
+admitted : (q : Bool) → cond {A = ℕ} q 0 7 ≡ 0 → q ≡ true
+admitted true e = refl
+admitted false e = absurd (omega arith)
+
+module _ (es : List Entry) where
+  -- each row is sound, and each pair apart
+  abbrev pub rowsGood : List BridgeRow → Bool
+  rowsGood rows = every (rowSound es) rows && pairwise rowsApart rows
+
+  -- the table of these rows
+  abbrev pub tableOfRows : List BridgeRow → Table
+  tableOfRows rows = tableOf (map (bridgeOf es) rows)
+
+  module _ (rows : List BridgeRow) (r : BridgeRow) where
+    -- the bridges so far, against the row, are the rows so far
+    admissible-is : length rows ≤ maxRows → admissible es (tableOfRows rows) r ≡ (rowSound es r && every (λ (q : BridgeRow). rowsApart q r) rows)
+    unfolding admissible
+    admissible-is few = ap (λ (t : Bool). rowSound es r && t) (ap (every (bridgeApart r)) held ∙ every-map (bridgeOf es) (bridgeApart r) rows)
+      where
+        held : bridgesOf (tableOfRows rows) ≡ map (bridgeOf es) rows
+        held = padded-take noBridge maxRows (map (bridgeOf es) rows) (rw (length-map rows (bridgeOf es)) few)
+
+    one-more : length rows ≤ maxRows → rowsGood (rows ++ r ∷ []) ≡ (rowsGood rows && admissible es (tableOfRows rows) r)
+    one-more few =
+        rw (admissible-is few, every-snoc (rowSound es) rows r, pairwise-snoc rowsApart rows r)
+        (shuffle (every (rowSound es) rows) (rowSound es r) (pairwise rowsApart rows) (every (λ (q : BridgeRow). rowsApart q r) rows))
+
+    table-more : length rows < maxRows → withNext (tableOfRows rows) (length rows) (bridgeOf es r) ≡ tableOfRows (rows ++ r ∷ [])
+    table-more room = sym whole
+      where
+        n : length (map (bridgeOf es) rows) ≡ length rows
+        n = length-map rows (bridgeOf es)
+
+        stored : padded noBridge maxRows (map (bridgeOf es) rows ++ bridgeOf es r ∷ []) ≡ set (padded noBridge maxRows (map (bridgeOf es) rows)) (length rows) (bridgeOf es r)
+        stored = padded-snoc noBridge maxRows (map (bridgeOf es) rows) (bridgeOf es r) (rw n room) ∙ ap (λ (k : ℕ). set (padded noBridge maxRows (map (bridgeOf es) rows)) k (bridgeOf es r)) n
+
+        counted : length (map (bridgeOf es) rows ++ bridgeOf es r ∷ []) ≡ length rows + 1
+        counted = length-append (map (bridgeOf es) rows) (bridgeOf es r ∷ []) ∙ ap (λ (k : ℕ). k + 1) n
+
+        whole : tableOfRows (rows ++ r ∷ []) ≡ withNext (tableOfRows rows) (length rows) (bridgeOf es r)
+        whole = rw (map-snoc (bridgeOf es) rows r) (ap₂ (λ (l : List Bridge) (k : ℕ). record { bridges = l; count = k }) stored counted)
+
+  -- the first i rows of a list are sound, apart and in the table
+  pub record Listed (rows : List BridgeRow) (i : ℕ) (t : Table) : Type 0 where
+    pub upto : i ≤ length rows
+    pub table-is : t ≡ tableOfRows (take i rows)
+    pub good : rowsGood (take i rows) ≡ true
+
+  pub listed-none : (rows : List BridgeRow) → Listed rows 0 (tableOf [])
+  listed-none rows = record { upto = omega arith; table-is = refl; good = refl }
+
+  module _ (rows : List BridgeRow) (i : ℕ) (t : Table) (d : BridgeRow) (listed : Listed rows i t) (left : i < length rows) (few : length rows ≤ maxRows) where
+    abbrev here : BridgeRow
+    here = getD rows i d
+
+    front : length (take i rows) ≡ i
+    front = length-take-le i rows (listed .upto)
+
+    next : take (i + 1) rows ≡ take i rows ++ here ∷ []
+    next = rw (add-one i) (take-suc rows i d left)
+
+    -- one row more, by whether it is admitted
+    more : rowsGood (take (i + 1) rows) ≡ admissible es t here
+    more = rw (next, one-more (take i rows) here (rw front (omega (arith, listed .upto))), listed .good, listed .table-is)
+
+    -- the number and the bridge that `admit` gives
+    abbrev number : ℕ
+    number = cond (admissible es t here) 0 7
+
+    abbrev bridge : Bridge
+    bridge = cond (admissible es t here) (bridgeOf es here) noBridge
+
+    -- the row is admitted
+    pub listed-more : (n : ℕ) (b : Bridge) → n ≡ number → b ≡ bridge → n ≡ 0 → Listed rows (i + 1) (withNext t i b)
+    listed-more n b e f z = record { upto = omega arith; table-is = stored; good = more ∙ a }
+      where
+        a : admissible es t here ≡ true
+        a = admitted (admissible es t here) (sym e ∙ z)
+
+        room : length (take i rows) < maxRows
+        room = rw front (omega arith)
+
+        stored : withNext t i b ≡ tableOfRows (take (i + 1) rows)
+        stored = rw (next, f, a, listed .table-is) (rw front at (table-more (take i rows) here room))
+
+    -- it is not: the whole list breaks a rule
+    pub listed-stop : (n : ℕ) → n ≡ number → (n ≡ 0 → ⊥) → (n ≡ 7) × (rowsSound es rows ≡ false)
+    unfolding rowsSound
+    listed-stop n e z = (e ∙ ap (λ (q : Bool). cond {A = ℕ} q 0 7) a, fails (leb (length rows) maxRows && every (rowSound es) rows && pairwise rowsApart rows) no)
+      where
+        a : admissible es t here ≡ false
+        a = fails (admissible es t here) (λ q. z (e ∙ ap (λ (q : Bool). cond {A = ℕ} q 0 7) q))
+
+        no : leb (length rows) maxRows && every (rowSound es) rows && pairwise rowsApart rows ≡ true → ⊥
+        no s =
+            let sound : every (rowSound es) rows ≡ true = search (and-l, and-r) in
+            let apart : pairwise rowsApart rows ≡ true = search (and-l, and-r) in
+            true≢false (sym (and-is (every-take (rowSound es) rows (i + 1) sound) (pairwise-take rowsApart rows (i + 1) apart)) ∙ more ∙ a)
+
+  -- all rows are listed
+  pub listed-all : (rows : List BridgeRow) (i : ℕ) (t : Table) → Listed rows i t → length rows ≤ i → length rows ≤ maxRows
+      → (rowsSound es rows ≡ true) × (t ≡ tableOfRows rows)
+  unfolding rowsSound
+  listed-all rows i t listed past few =
+      let w = take-all i rows past in
+      let g : rowsGood rows ≡ true = rw w at (listed .good) in (
+        and-is
+            (and-is (le-leb (length rows) maxRows few) (and-l (every (rowSound es) rows) (pairwise rowsApart rows) g))
+            (and-r (every (rowSound es) rows) (pairwise rowsApart rows) g),
+        rw w at (listed .table-is),
+      )
+
+-- a list of more rows than a table holds
+too-many : (es : List Entry) (rows : List BridgeRow) → maxRows < length rows → rowsSound es rows ≡ false
+unfolding rowsSound
+too-many es rows h = rw (lt-leb (length rows) maxRows h)
+
+-- ---- the number and the table of start
+
+module _ (x : StartInput) where
+  abbrev es : List Entry
+  es = entries (x .mcfg)
+
+  -- a refused start: its number, and no bridges
+  abbrev Refused : ℕ → Type 0
+  Refused n = (n ≡ startNumber x) × (tableOf [] ≡ startTable x)
+
+  table-refused : mcfgSound (x .mcfg) ≡ false → Refused 6
+  unfolding startTable startNumber
+  table-refused m = rw m (refl, refl)
+
+  pub rows-refused : mcfgSound (x .mcfg) ≡ true → rowsSound es (x .rows) ≡ false → Refused 7
+  unfolding startTable startNumber
+  rows-refused m r = rw (m, r) (refl, refl)
+
+  -- a start that is not refused
+  pub all-admitted : mcfgSound (x .mcfg) ≡ true → rowsSound es (x .rows) ≡ true → (0 ≡ startNumber x) × (tableOfRows es (x .rows) ≡ startTable x)
+  unfolding startTable startNumber
+  all-admitted m r = rw (m, r) (refl, refl)
+
+  module _ (n count : ℕ) (is : n ≡ firstNumber (x .mcfg) count) where
+    pub first-passes : n ≡ 0 → (mcfgSound (x .mcfg) ≡ true) × (count ≤ maxRows)
+    first-passes z = go (mcfgSound (x .mcfg)) (leb count maxRows) refl refl (sym is ∙ z)
+      where
+        go : (a b : Bool) → mcfgSound (x .mcfg) ≡ a → leb count maxRows ≡ b → firstOf ((6 if not a) ∷ (7 if not b) ∷ []) ≡ 0
+            → (mcfgSound (x .mcfg) ≡ true) × (count ≤ maxRows)
+        go true true p q e = (p, leb-true count maxRows q)
+        go true false p q e = absurd (omega arith)
+        go false b p q e = absurd (omega arith)
+
+    pub first-refuses : (maxRows < count → maxRows < length (x .rows)) → (n ≡ 0 → ⊥) → Refused n
+    first-refuses long z = go (mcfgSound (x .mcfg)) (leb count maxRows) refl refl is
+      where
+        go : (a b : Bool) → mcfgSound (x .mcfg) ≡ a → leb count maxRows ≡ b → n ≡ firstOf ((6 if not a) ∷ (7 if not b) ∷ []) → Refused n
+        go true true p q e = absurd (z e)
+        go true false p q e = rw e (rows-refused p (too-many es (x .rows) (long (leb-false count maxRows q))))
+        go false b p q e = rw e (table-refused p)

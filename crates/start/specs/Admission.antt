@@ -1,0 +1,37 @@
+-- One row of the starting list against the bridges of the rows before it.
+use Prim.Native.Nat.{ℕ, _+_}
+use mathlib.Core.Bool.{Bool, not, _&&_, _||_}
+use mathlib.Core.List.{List, [], _∷_}
+use lib.Dec.{eqb, leb}
+use lib.ListN.{set}
+use Rattle.rules.specs.Limits.{maxRows}
+use Rattle.rules.specs.Lists.{every}
+use Rattle.rules.specs.Refusals.{_if_, firstOf}
+use Rattle.rules.specs.Mcfg.{busesApart, mcfgSound}
+use Rattle.rules.specs.Tables.{bridgesOf}
+use Rattle.rules.specs.Start.{rowSound}
+use Rattle.rules.specs.declared.Bridge.{Bridge}
+use Rattle.rules.specs.declared.BridgeKind.the-variants.{Express}
+use Rattle.rules.specs.declared.BridgeRow.{BridgeRow}
+use Rattle.rules.specs.declared.Entry.{Entry}
+use Rattle.rules.specs.declared.Table.{Table}
+
+-- what stands past the end of a list of rows
+abbrev pub noRow : BridgeRow
+noRow = record { owner = record { 0 = 0 }; segment = 0; «first_bus» = 0; «last_bus» = 0; kind = Express; permitted = 0 }
+
+-- `rowsApart`, with the earlier row read off its bridge
+abbrev pub bridgeApart : BridgeRow → Bridge → Bool
+bridgeApart r b = not (eqb (b .segment) (r .segment)) || busesApart (b .«first_bus») (b .«last_bus») (r .«first_bus») (r .«last_bus»)
+
+-- the row may follow the rows whose bridges the table has
+unfoldable pub admissible : List Entry → Table → BridgeRow → Bool
+admissible es t r = rowSound es r && every (bridgeApart r) (bridgesOf t)
+
+-- the table with bridge i, its last
+abbrev pub withNext : Table → ℕ → Bridge → Table
+withNext t i b = record { bridges = set (t .bridges) i b; count = i + 1 }
+
+-- what start refuses before it looks at a row: 6, the MCFG table; 7, more rows than a table holds
+abbrev pub firstNumber : List ℕ → ℕ → ℕ
+firstNumber mcfg count = firstOf ((6 if not (mcfgSound mcfg)) ∷ (7 if not (leb count maxRows)) ∷ [])

@@ -1,0 +1,199 @@
+// The table of a lent MCFG table and the rows of a starting list.
+ghost use mathlib.Core.Path.{_≡_};
+ghost use mathlib.Core.Bool.{cond};
+ghost use mathlib.Core.List.{[]};
+ghost use Prim.Native.Nat.{_<_};
+ghost use lib.ListN.{take};
+ghost use Rattle.rules.specs.Limits.{maxRows};
+ghost use Rattle.rules.specs.Lists.{every};
+ghost use Rattle.rules.specs.Mcfg.{entries};
+ghost use Rattle.rules.specs.Tables.{noBridge, bridgesOf};
+ghost use Rattle.rules.specs.Start.{permissible, rowSound, bridgeOf, tableOf, startNumber, startTable};
+ghost use Rattle.start.specs.Admission.{bridgeApart, admissible, firstNumber, withNext};
+use rules::Bridge;
+use rules::BridgeKind;
+use rules::BridgeRow;
+use rules::SessionNumber;
+use rules::Table;
+
+// The rows of a list by value: one more than a table holds, so that a list that is too long can be handed in.
+pub const LIST_ROWS: usize = rules::MAX_ROWS + 1;
+
+// Control bits 0 to 4, and bit 1.
+const KNOWN_CONTROL: u32 = 0x1F;
+
+const SHPC: u32 = 0x02;
+
+// The control bits that a row of this kind may permit.
+fn permissible(kind: BridgeKind) -> u32
+    ensures { λ r. ⌜ r ≡ permissible kind ⌝ }
+{
+    match kind {
+        BridgeKind::Express => KNOWN_CONTROL,
+        BridgeKind::Conventional => SHPC,
+    }
+}
+
+// What is sound of one row.
+pub fn row_sound(mcfg: &[u8], row: BridgeRow) -> bool
+    ensures { λ r. ⌜ r ≡ rowSound (entries (now (mcfg .entry))) row ⌝ }
+{
+    let owner = row.owner;
+    let kind = row.kind;
+    let mask = permissible(kind);
+    let place = mcfg::entry_of(mcfg, row);
+    (owner.0 <= rules::MAX_OWNER)
+        & (row.first_bus <= row.last_bus)
+        & place.found
+        & (row.permitted & KNOWN_CONTROL == row.permitted)
+        & (row.permitted & mask == row.permitted)
+}
+
+// A bridge and a row of one segment share no bus.
+fn apart(b: Bridge, row: BridgeRow) -> bool
+    ensures { λ r. ⌜ r ≡ bridgeApart row b ⌝ }
+{
+    (b.segment != row.segment) | ((b.last_bus < row.first_bus) | (row.last_bus < b.first_bus))
+}
+
+// No bridge of the table shares a bus with the row.
+fn apart_from_all(t: Table, row: BridgeRow) -> bool
+    ensures { λ r. ⌜ r ≡ every (bridgeApart row) (bridgesOf t) ⌝ }
+{
+    let n = t.count;
+    let mut j = 0;
+    while j < rules::MAX_ROWS {
+        if n <= j {
+            return true;
+        }
+        let b = t.bridges[j];
+        if !apart(b, row) {
+            return false;
+        }
+        j += 1;
+    }
+    true
+}
+
+// A row judged: 0 and its bridge, or 7 and zeros.
+#[repr(C)]
+pub struct Admitted {
+    pub number: u8,
+    pub bridge: Bridge,
+}
+
+// The bridge of no row.
+fn no_bridge() -> Bridge
+    ensures { λ r. ⌜ r ≡ noBridge ⌝ }
+{
+    let owner = SessionNumber(0);
+    Bridge {
+        base: 0,
+        permitted: 0,
+        held: 0,
+        supported: 0,
+        segment: 0,
+        owner,
+        first_bus: 0,
+        last_bus: 0,
+    }
+}
+
+// A row against the bridges of the rows before it and the MCFG entries.
+pub fn admit(mcfg: &[u8], t: Table, row: BridgeRow) -> Admitted
+    ensures { λ r. ⌜ (r .number ≡ cond (admissible (entries (now (mcfg .entry))) t row) 0 7)
+        × (r .bridge ≡ cond (admissible (entries (now (mcfg .entry))) t row) (bridgeOf (entries (now (mcfg .entry))) row) noBridge) ⌝ }
+{
+    if row_sound(mcfg, row) & apart_from_all(t, row) {
+        let place = mcfg::entry_of(mcfg, row);
+        let owner = row.owner;
+        let bridge = Bridge {
+            base: place.base,
+            permitted: row.permitted,
+            held: 0,
+            supported: 0,
+            segment: row.segment,
+            owner,
+            first_bus: row.first_bus,
+            last_bus: row.last_bus,
+        };
+        return Admitted { number: 0, bridge };
+    }
+    Admitted {
+        number: 7,
+        bridge: no_bridge(),
+    }
+}
+
+// 6: the MCFG table is not sound; 7: more rows than a table holds; else 0.
+pub fn first_number(mcfg: &[u8], count: usize) -> u8
+    ensures { λ r. ⌜ r ≡ firstNumber (now (mcfg .entry)) count ⌝ }
+{
+    if !mcfg::sound(mcfg) {
+        return 6;
+    }
+    if rules::MAX_ROWS < count {
+        return 7;
+    }
+    0
+}
+
+// The table with no bridges.
+pub fn no_bridges() -> Table
+    ensures { λ r. ⌜ r ≡ tableOf [] ⌝ }
+{
+    let b = no_bridge();
+    let bridges = [b; rules::MAX_ROWS];
+    Table { bridges, count: 0 }
+}
+
+// The table with bridge `i`, its last.
+pub fn with_next(t: Table, i: usize, b: Bridge) -> Table
+    requires { ⌜ i < maxRows ⌝ }
+    ensures { λ r. ⌜ r ≡ withNext t i b ⌝ }
+{
+    let mut next = t;
+    next.bridges[i] = b;
+    next.count = i + 1;
+    next
+}
+
+// What start gives: its number, and the table.
+#[repr(C)]
+pub struct Started {
+    pub number: u8,
+    pub table: Table,
+}
+
+// The table of the first `count` rows, or a refusal and no bridges.
+pub fn start(mcfg: &[u8], rows: [BridgeRow; LIST_ROWS], count: usize) -> Started
+    ensures { λ r. ⌜ (r .number ≡ startNumber (record { mcfg = now (mcfg .entry); rows = take count rows }))
+        × (r .table ≡ startTable (record { mcfg = now (mcfg .entry); rows = take count rows })) ⌝ }
+{
+    let n = first_number(mcfg, count);
+    let mut t = no_bridges();
+    if n != 0 {
+        return Started {
+            number: n,
+            table: t,
+        };
+    }
+    let mut i = 0;
+    while i < count {
+        let row = rows[i];
+        let a = admit(mcfg, t, row);
+        let number = a.number;
+        if number != 0 {
+            return Started {
+                number,
+                table: no_bridges(),
+            };
+        }
+        t = with_next(t, i, a.bridge);
+        i += 1;
+    }
+    Started {
+        number: 0,
+        table: t,
+    }
+}
