@@ -4,12 +4,14 @@ use mathlib.Core.Bool.{Bool, not, _&&_, _||_}
 use mathlib.Core.List.{List, [], _∷_}
 use lib.Dec.{eqb, leb}
 use lib.ListN.{set}
-use Rattle.rules.specs.Limits.{maxRows}
+use Rattle.rules.specs.Limits.{maxRows, maxOwner}
+use Rattle.rules.specs.Numbers.{within}
+use Rattle.rules.specs.Osc.{knownControl}
 use Rattle.rules.specs.Lists.{every}
 use Rattle.rules.specs.Refusals.{_if_, firstOf}
 use Rattle.rules.specs.Mcfg.{busesApart, mcfgSound}
 use Rattle.rules.specs.Tables.{bridgesOf}
-use Rattle.rules.specs.Start.{rowSound}
+use Rattle.rules.specs.Start.{permissible, rowSound}
 use Rattle.rules.specs.declared.Bridge.{Bridge}
 use Rattle.rules.specs.declared.BridgeKind.the-variants.{Express}
 use Rattle.rules.specs.declared.BridgeRow.{BridgeRow}
@@ -19,6 +21,12 @@ use Rattle.rules.specs.declared.Table.{Table}
 -- what stands past the end of a list of rows
 abbrev pub noRow : BridgeRow
 noRow = record { owner = record { 0 = 0 }; segment = 0; «first_bus» = 0; «last_bus» = 0; kind = Express; permitted = 0 }
+
+-- `rowSound`, with the entry already looked for
+abbrev pub rowSoundIf : (inside : Bool) → BridgeRow → Bool
+rowSoundIf inside r =
+    leb (r .owner .0) maxOwner && leb (r .«first_bus») (r .«last_bus») && inside && within (r .permitted) knownControl
+    && within (r .permitted) (permissible (r .kind))
 
 -- `rowsApart`, with the earlier row read off its bridge
 abbrev pub bridgeApart : BridgeRow → Bridge → Bool

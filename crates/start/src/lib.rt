@@ -8,8 +8,8 @@ ghost use Rattle.rules.specs.Limits.{maxRows};
 ghost use Rattle.rules.specs.Lists.{every};
 ghost use Rattle.rules.specs.Mcfg.{entries};
 ghost use Rattle.rules.specs.Tables.{noBridge, bridgesOf};
-ghost use Rattle.rules.specs.Start.{permissible, rowSound, bridgeOf, tableOf, startNumber, startTable};
-ghost use Rattle.start.specs.Admission.{bridgeApart, admissible, firstNumber, withNext};
+ghost use Rattle.rules.specs.Start.{permissible, bridgeOf, tableOf, startNumber, startTable};
+ghost use Rattle.start.specs.Admission.{rowSoundIf, bridgeApart, admissible, firstNumber, withNext};
 use rules::Bridge;
 use rules::BridgeKind;
 use rules::BridgeRow;
@@ -34,17 +34,16 @@ fn permissible(kind: BridgeKind) -> u32
     }
 }
 
-// What is sound of one row.
-pub fn row_sound(mcfg: &[u8], row: BridgeRow) -> bool
-    ensures { λ r. ⌜ r ≡ rowSound (entries (now (mcfg .entry))) row ⌝ }
+// What is sound of one row that lies inside an entry, or in none.
+fn row_sound(row: BridgeRow, inside: bool) -> bool
+    ensures { λ r. ⌜ r ≡ rowSoundIf inside row ⌝ }
 {
     let owner = row.owner;
     let kind = row.kind;
     let mask = permissible(kind);
-    let place = mcfg::entry_of(mcfg, row);
     (owner.0 <= rules::MAX_OWNER)
         & (row.first_bus <= row.last_bus)
-        & place.found
+        & inside
         & (row.permitted & KNOWN_CONTROL == row.permitted)
         & (row.permitted & mask == row.permitted)
 }
@@ -104,8 +103,8 @@ pub fn admit(mcfg: &[u8], t: Table, row: BridgeRow) -> Admitted
     ensures { λ r. ⌜ (r .number ≡ cond (admissible (entries (now (mcfg .entry))) t row) 0 7)
         × (r .bridge ≡ cond (admissible (entries (now (mcfg .entry))) t row) (bridgeOf (entries (now (mcfg .entry))) row) noBridge) ⌝ }
 {
-    if row_sound(mcfg, row) & apart_from_all(t, row) {
-        let place = mcfg::entry_of(mcfg, row);
+    let place = mcfg::entry_of(mcfg, row);
+    if row_sound(row, place.found) & apart_from_all(t, row) {
         let owner = row.owner;
         let bridge = Bridge {
             base: place.base,

@@ -2,18 +2,21 @@
 use mathlib.Core.Path.{_≡_, refl, sym, _∙_}
 use mathlib.Core.Bool.{_&&_}
 use denote.Ref.{now}
-use borrow.Author.Needs.{needs}
 use Rattle.rules.specs.Mcfg.{entries}
 use Rattle.start.specs.Admission.{admissible}
+use borrow.Author.Needs.{needs}
 use Rattle.start.proofs.admit.Statement.{statement}
 use Rattle.start.proofs.admit.Tie as tie
 
 -- both tests together are the definition's
 judged : (c : tie.After-apart-from-all)
     → (c .before .row-sound .result && c .apart-from-all .result)
-    ≡ admissible (entries (now (c .before .before .before .args .mcfg))) (c .before .before .before .args .t) (c .before .before .before .args .row)
+    ≡ admissible (entries (now (c .before .before .before .before .args .mcfg))) (c .before .before .before .before .args .t) (c .before .before .before .before .args .row)
 unfolding admissible
-judged c = rw (c .before .row-sound .ensures, c .apart-from-all .ensures)
+judged c = rw (c .before .row-sound .ensures, c .apart-from-all .ensures, c .before .before .entry-of .ensures .0)
+
+entry-of-requires : tie.Need-entry-of-requires
+entry-of-requires c κs = search needs
 
 row-sound-requires : tie.Need-row-sound-requires
 row-sound-requires c κs = search needs
@@ -21,12 +24,8 @@ row-sound-requires c κs = search needs
 apart-from-all-requires : tie.Need-apart-from-all-requires
 apart-from-all-requires c κs = search needs
 
-entry-of-requires : tie.Need-entry-of-requires
-entry-of-requires c κs = search needs
-
 returns : tie.Need-returns
-returns c =
-    simp (sym (judged (c .before .before .before)) ∙ c .before .before .if1 .taken, c .before .entry-of .ensures .1) (refl, refl)
+returns c = simp (sym (judged (c .before .before)) ∙ c .before .if1 .taken, c .before .before .before .before .entry-of .ensures .1) (refl, refl)
 
 no-bridge-requires : tie.Need-no-bridge-requires
 no-bridge-requires c κs = search needs
@@ -38,9 +37,9 @@ pub admit-spec : {M : Type 1} → statement M
 admit-spec =
     tie.close
     (tie.spec
+    entry-of-requires
     row-sound-requires
     apart-from-all-requires
-    entry-of-requires
     returns
     no-bridge-requires
     returns-2)
