@@ -2,6 +2,9 @@
 use rules::Bridge;
 use rules::BridgeNumber;
 use rules::Place;
+use rules::constants::BUS_BYTES;
+use rules::constants::DEVICE_BYTES;
+use rules::constants::FUNCTION_BYTES;
 ghost use mathlib.Core.Path.{_≡_};
 ghost use mathlib.Core.Bool.{true, not, _||_};
 ghost use Prim.Native.Nat.{_%_};
@@ -41,9 +44,9 @@ pub fn address_of(b: Bridge, bus: u8, device: u8, function: u8, offset: u16) -> 
     ensures { λ r. ⌜ r ≡ addressOf b bus device function offset ⌝ }
 {
     b.base
-        + (bus as u64) * 1048576
-        + (device as u64) * 32768
-        + (function as u64) * 4096
+        + (bus as u64) * BUS_BYTES
+        + (device as u64) * DEVICE_BYTES
+        + (function as u64) * FUNCTION_BYTES
         + (offset as u64)
 }
 
@@ -54,7 +57,7 @@ pub fn in_window(b: Bridge, address: u64) -> bool
     if address < b.base {
         return false;
     }
-    let bus = (address - b.base) / 1048576;
+    let bus = (address - b.base) / BUS_BYTES;
     ((b.first_bus as u64) <= bus) & (bus <= (b.last_bus as u64))
 }
 
@@ -66,9 +69,9 @@ pub fn place_of(n: BridgeNumber, b: Bridge, address: u64) -> Place
     let inside = address - b.base;
     Place {
         bridge: n,
-        bus: (inside / 1048576) as u8,
-        device: (inside / 32768 % 32) as u8,
-        function: (inside / 4096 % 8) as u8,
-        offset: (inside % 4096) as u16,
+        bus: (inside / BUS_BYTES) as u8,
+        device: (inside / DEVICE_BYTES % 32) as u8,
+        function: (inside / FUNCTION_BYTES % 8) as u8,
+        offset: (inside % FUNCTION_BYTES) as u16,
     }
 }

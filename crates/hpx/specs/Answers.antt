@@ -1,21 +1,12 @@
--- Document 01, "Refusal numbers" and "Record blocks and register values": what the searches answer.
+-- Document 01, "Record blocks and register values": what the record search and the register values answer.
 use Prim.Native.Nat.{ℕ, zero, suc}
 use mathlib.Core.Bool.{Bool, cond}
 use mathlib.Core.List.{List}
 use mathlib.Core.Option.{Option, none, some}
-use lib.Dec.{eqb}
 use lib.ListN.{take, drop, replicate}
-use Rattle.rules.specs.Records.{andMask, orMask, foundBy, andOr, newValues}
+use Rattle.rules.specs.Records.{andMask, orMask, andOr, newValues}
 use Rattle.rules.specs.declared.Field.{Field}
 use Rattle.rules.specs.declared.Found.{Found}
-
--- "A refused call hands back zeros (or the empty part) beside its number"
-abbrev pub refused : ℕ → Found
-refused n = record { number = n; start = 0; size = 0 }
-
--- a record of the asked type is what the search gives; any other field leaves what it has
-abbrev pub choice : (type : ℕ) → Field → Found → Found
-choice type f found = cond (eqb (f .tag) type) (foundBy 0 (some f)) found
 
 -- the part of a block that a search gives
 abbrev pub part : Found → List ℕ → List ℕ

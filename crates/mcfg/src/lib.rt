@@ -1,4 +1,8 @@
 // The MCFG table: whether it is sound, its entries, and the entry that a row of the starting list lies inside.
+use rules::BridgeRow;
+use rules::Entry;
+use rules::constants::BUS_BYTES;
+use rules::constants::MAX_ENTRIES;
 ghost use mathlib.Core.Path.{_≡_};
 ghost use mathlib.Core.Bool.{true, not, _&&_};
 ghost use Prim.Native.Nat.{suc, _+_, _≤_};
@@ -7,13 +11,8 @@ ghost use Rattle.rules.specs.Lists.{every, pairwise, isNone};
 ghost use Rattle.rules.specs.Mcfg.{entries, entryAt, busStart, busEnd, entrySound, shareNoBus, shareNoByte, mcfgSound};
 ghost use Rattle.rules.specs.Start.{inside, entryOf, baseOf};
 ghost use Rattle.mcfg.specs.Rest.{headerSound, rest, apart};
-use rules::BridgeRow;
-use rules::Entry;
 
 const SIGNATURE: [u8; 4] = *b"MCFG";
-
-// The bytes of a bus: 2^20.
-const BUS_BYTES: u64 = 0x10_0000;
 
 // The last of the 2^44 places for a bus below 2^64.
 const LAST_PLACE: u64 = 0xFFF_FFFF_FFFF;
@@ -37,7 +36,7 @@ fn header_sound(m: &[u8]) -> bool
     if (m.len() - 44) % 16 != 0 {
         return false;
     }
-    if rules::MAX_ENTRIES < (m.len() - 44) / 16 {
+    if MAX_ENTRIES < (m.len() - 44) / 16 {
         return false;
     }
     words::byte_sum(m) == 0

@@ -1,6 +1,8 @@
 // _OSC: framing, the granting rule by masks, the answer buffer, what a taking call adds.
 use rules::Bridge;
 use rules::Holding;
+use rules::constants::KNOWN_CONTROL;
+use rules::constants::KNOWN_SUPPORT;
 ghost use mathlib.Core.Path.{_≡_};
 ghost use mathlib.Core.Bool.{false, cond};
 ghost use mathlib.Core.List.{_++_};
@@ -27,15 +29,12 @@ ghost use Rattle.rules.specs.Osc.{
 // The UUID as it stands in the buffer.
 const UUID: [u8; 16] = *b"\x5b\x4d\xdb\x33\xf7\x1f\x1c\x40\x96\x57\x74\x41\xc0\x3d\xd7\x66";
 
-// The known control bits, those of them that need no other, and the one that the others need.
-const KNOWN_CONTROL: u32 = 0x1f;
-
+// The control bits that need no other, and the one that the others need.
 const FREE_CONTROL: u32 = 0x12;
 
 const EXPRESS_CAPABILITY: u32 = 0x10;
 
-const KNOWN_SUPPORT: u32 = 0x1f;
-
+// The flag in the status DWORD.
 const QUERY: u32 = 0x01;
 
 // Refusal 3.

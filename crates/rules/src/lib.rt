@@ -1,13 +1,9 @@
 // The declared types. What the calls mean is in specs/, what follows from it in proofs/.
 
-// The limits of specs/Limits, under the same names.
+pub mod constants;
+
+// The most bridges that a table holds; `maxRows` in specs/Limits.
 pub const MAX_ROWS: usize = 16;
-
-pub const MAX_ENTRIES: usize = 16;
-
-pub const MAX_OWNER: u8 = 15;
-
-pub const MAX_BLOCK: usize = 1024;
 
 #[repr(C)]
 pub struct SessionNumber(pub u8);

@@ -1,4 +1,11 @@
 // The table of a lent MCFG table and the rows of a starting list.
+use rules::Bridge;
+use rules::BridgeKind;
+use rules::BridgeRow;
+use rules::SessionNumber;
+use rules::Table;
+use rules::constants::KNOWN_CONTROL;
+use rules::constants::MAX_OWNER;
 ghost use mathlib.Core.Path.{_≡_};
 ghost use mathlib.Core.Bool.{cond};
 ghost use mathlib.Core.List.{[]};
@@ -10,18 +17,11 @@ ghost use Rattle.rules.specs.Mcfg.{entries};
 ghost use Rattle.rules.specs.Tables.{noBridge, bridgesOf};
 ghost use Rattle.rules.specs.Start.{permissible, bridgeOf, tableOf, startNumber, startTable};
 ghost use Rattle.start.specs.Admission.{rowSoundIf, bridgeApart, admissible, firstNumber, withNext};
-use rules::Bridge;
-use rules::BridgeKind;
-use rules::BridgeRow;
-use rules::SessionNumber;
-use rules::Table;
 
 // The rows of a list by value: one more than a table holds, so that a list that is too long can be handed in.
 pub const LIST_ROWS: usize = rules::MAX_ROWS + 1;
 
-// Control bits 0 to 4, and bit 1.
-const KNOWN_CONTROL: u32 = 0x1F;
-
+// Control bit 1.
 const SHPC: u32 = 0x02;
 
 // The control bits that a row of this kind may permit.
@@ -41,7 +41,7 @@ fn row_sound(row: BridgeRow, inside: bool) -> bool
     let owner = row.owner;
     let kind = row.kind;
     let mask = permissible(kind);
-    (owner.0 <= rules::MAX_OWNER)
+    (owner.0 <= MAX_OWNER)
         & (row.first_bus <= row.last_bus)
         & inside
         & (row.permitted & KNOWN_CONTROL == row.permitted)

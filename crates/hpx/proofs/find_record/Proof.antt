@@ -5,6 +5,7 @@ use native.Mathlib.Omega.{arith}
 use denote.Ref.{now}
 use lib.ListN.{length}
 use borrow.Author.Needs.{needs}
+use Rattle.rules.specs.Records.{deciding, findRecord}
 use Rattle.rules.specs.declared.Found.{Found}
 use Rattle.hpx.proofs.Searches.{part-is, found-inside}
 use Rattle.hpx.proofs.find_record.Statement.{statement}
@@ -13,7 +14,7 @@ use Rattle.hpx.proofs.find_record.Tie as tie
 fits : (c : tie.After-deciding) → c .before .search .result .start + c .before .search .result .size ≤ length (now (c .deciding .result))
 fits c =
     let a = c .before .before .before .before .args in
-    found-inside (now (a .slot)) (now (a .block)) _ (c .before .search .result) (c .before .search .ensures) (now (c .deciding .result)) (c .deciding .ensures)
+    found-inside (now (a .slot)) (now (a .block)) (a .kind) (c .before .search .result) (c .before .search .ensures) (now (c .deciding .result)) (c .deciding .ensures)
 
 search-requires : tie.Need-search-requires
 search-requires c κs = search needs
@@ -36,7 +37,10 @@ part-result-end c = fits (c .before)
 returns : tie.Need-returns
 returns c =
     let d = c .before .before in
-    (ap (λ (r : Found). r .number) (d .before .search .ensures), part-is _ _ _ _ (d .deciding .ensures) (d .before .search .ensures))
+    let a = d .before .before .before .before .args in
+    let slot = now (a .slot) in
+    let block = now (a .block) in
+    (ap (λ (r : Found). r .number) (d .before .search .ensures), part-is (now (d .deciding .result)) (deciding slot block) (d .before .search .result) (findRecord slot block (a .kind)) (d .deciding .ensures) (d .before .search .ensures))
 
 pub find-record-spec : {M : Type 1} → statement M
 find-record-spec =

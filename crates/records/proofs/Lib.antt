@@ -1,0 +1,4 @@
+pub mod Types
+pub mod Reading
+pub mod Passes
+pub mod Walking

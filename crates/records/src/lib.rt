@@ -1,0 +1,233 @@
+// Record blocks: their fields, and the search of one block for a record.
+use rules::Field;
+use rules::Found;
+use rules::constants::MAX_BLOCK;
+ghost use mathlib.Core.Path.{_≡_};
+ghost use mathlib.Core.List.{[]};
+ghost use Prim.Native.Nat.{_+_, _^_, _<_, _≤_};
+ghost use lib.Dec.{ltb};
+ghost use lib.ListN.{length};
+ghost use Rattle.rules.specs.Limits.{maxBlock};
+ghost use Rattle.rules.specs.Records.{isRecord, recordSize, valuesSound, fieldSound, findRecord};
+ghost use Rattle.records.specs.Fields.{fieldRead, judged, has, marked, refused, choice};
+
+// A field taken apart, or the end of the walk, which is refusal 8.
+pub enum FieldRead {
+    Whole(Field),
+    End,
+}
+
+// The field at a place, all of it within the block.
+pub fn read_field(b: &[u8], at: usize) -> FieldRead
+    requires { ⌜ at ≤ length (now b) ⌝ }
+    ensures { λ r. ⌜ r ≡ fieldRead (now (b .entry)) at ⌝ }
+{
+    if b.len() - at < 3 {
+        return FieldRead::End;
+    }
+    let size = words::read16(b, 1 + at) as usize;
+    if b.len() - at - 3 < size {
+        return FieldRead::End;
+    }
+    FieldRead::Whole(Field {
+        start: at,
+        tag: b[at],
+        size,
+    })
+}
+
+// Type 0: cache line and latency at most 255, SERR and PERR 0 or 1.
+fn values_sound_0(b: &[u8], f: Field) -> bool
+    requires { ⌜ 23 + f .start ≤ length (now b) ⌝ }
+    ensures { λ r. ⌜ r ≡ valuesSound (now (b .entry)) f 0 ⌝ }
+{
+    (words::read32(b, 7 + f.start) <= 255)
+        & (words::read32(b, 11 + f.start) <= 255)
+        & (words::read32(b, 15 + f.start) <= 1)
+        & (words::read32(b, 19 + f.start) <= 1)
+}
+
+// Type 1: read count at most 3, both split counts at most 7.
+fn values_sound_1(b: &[u8], f: Field) -> bool
+    requires { ⌜ 19 + f .start ≤ length (now b) ⌝ }
+    ensures { λ r. ⌜ r ≡ valuesSound (now (b .entry)) f 1 ⌝ }
+{
+    (words::read32(b, 7 + f.start) <= 3)
+        & (words::read32(b, 11 + f.start) <= 7)
+        & (words::read32(b, 15 + f.start) <= 7)
+}
+
+// Type 2: the pairs of Device Control and Link Control at most 65535.
+fn values_sound_2(b: &[u8], f: Field) -> bool
+    requires { ⌜ 71 + f .start ≤ length (now b) ⌝ }
+    ensures { λ r. ⌜ r ≡ valuesSound (now (b .entry)) f 2 ⌝ }
+{
+    (words::read32(b, 39 + f.start) <= 65535)
+        & (words::read32(b, 43 + f.start) <= 65535)
+        & (words::read32(b, 47 + f.start) <= 65535)
+        & (words::read32(b, 51 + f.start) <= 65535)
+}
+
+// The values of a revision 1 record, by its type.
+fn values_sound(b: &[u8], f: Field) -> bool
+    requires { ⌜ (f .size ≡ recordSize (f .tag)) × (3 + f .size + f .start ≤ length (now b)) ⌝ }
+    ensures { λ r. ⌜ r ≡ valuesSound (now (b .entry)) f (f .tag) ⌝ }
+{
+    let tag = f.tag;
+    match tag {
+        0 => values_sound_0(b, f),
+        1 => values_sound_1(b, f),
+        _ => values_sound_2(b, f),
+    }
+}
+
+// The length of a revision 1 record, by its type.
+fn record_size(tag: u8) -> usize
+    ensures { λ r. ⌜ r ≡ recordSize tag ⌝ }
+{
+    match tag {
+        0 => 20,
+        1 => 16,
+        _ => 68,
+    }
+}
+
+// What a field is: skipped, a sound revision 1 record, or a broken rule, which is refusal 8.
+pub enum Judged {
+    Skip,
+    Record,
+    Bad,
+}
+
+fn judge(b: &[u8], f: Field) -> Judged
+    requires { ⌜ 3 + f .size + f .start ≤ length (now b) ⌝ }
+    ensures { λ r. ⌜ r ≡ judged (fieldSound (now (b .entry)) f) (isRecord (now (b .entry)) f) ⌝ }
+{
+    if 2 < f.tag {
+        return Judged::Skip;
+    }
+    if f.size < 4 {
+        return Judged::Bad;
+    }
+    if f.size % 4 != 0 {
+        return Judged::Bad;
+    }
+    if words::read32(b, 3 + f.start) != 1 {
+        return Judged::Skip;
+    }
+    if f.size != record_size(f.tag) {
+        return Judged::Bad;
+    }
+    if values_sound(b, f) {
+        return Judged::Record;
+    }
+    Judged::Bad
+}
+
+// Which types have had their record.
+pub struct Seen {
+    pub type_0: bool,
+    pub type_1: bool,
+    pub type_2: bool,
+}
+
+// Whether a type has had its record.
+fn has_record(seen: Seen, tag: u8) -> bool
+    ensures { λ r. ⌜ r ≡ has seen tag ⌝ }
+{
+    match tag {
+        0 => seen.type_0,
+        1 => seen.type_1,
+        _ => seen.type_2,
+    }
+}
+
+// A type has its record.
+fn mark(seen: Seen, tag: u8) -> Seen
+    ensures { λ r. ⌜ r ≡ marked seen tag ⌝ }
+{
+    match tag {
+        0 => Seen {
+            type_0: true,
+            type_1: seen.type_1,
+            type_2: seen.type_2,
+        },
+        1 => Seen {
+            type_0: seen.type_0,
+            type_1: true,
+            type_2: seen.type_2,
+        },
+        _ => Seen {
+            type_0: seen.type_0,
+            type_1: seen.type_1,
+            type_2: true,
+        },
+    }
+}
+
+// What is handed back beside a refusal number.
+fn refusal(number: u8) -> Found
+    ensures { λ r. ⌜ r ≡ refused number ⌝ }
+{
+    Found {
+        number,
+        start: 0,
+        size: 0,
+    }
+}
+
+// A record of the asked type is what the search gives; any other leaves what it has.
+fn chosen(found: Found, f: Field, kind: u8) -> Found
+    requires { ⌜ 3 + f .size < 2 ^ 64 ⌝ }
+    ensures { λ r. ⌜ r ≡ choice kind f found ⌝ }
+{
+    if f.tag == kind {
+        return Found {
+            number: 0,
+            start: f.start,
+            size: 3 + f.size,
+        };
+    }
+    found
+}
+
+// Whether a block is too long to be sound.
+fn too_long(b: &[u8]) -> bool
+    ensures { λ r. ⌜ r ≡ ltb maxBlock (length (now (b .entry))) ⌝ }
+{
+    MAX_BLOCK < b.len()
+}
+
+// One pass over a block: sound or not, and the place of the asked record.
+pub fn search_block(b: &[u8], kind: u8) -> Found
+    ensures { λ r. ⌜ r ≡ findRecord [] (now (b .entry)) kind ⌝ }
+{
+    if too_long(b) {
+        return refusal(8);
+    }
+    let mut at = 0;
+    let mut seen = Seen {
+        type_0: false,
+        type_1: false,
+        type_2: false,
+    };
+    let mut found = refusal(9);
+    while at < b.len() {
+        let FieldRead::Whole(f) = read_field(b, at) else {
+            return refusal(8);
+        };
+        match judge(b, f) {
+            Judged::Skip => {}
+            Judged::Record => {
+                if has_record(seen, f.tag) {
+                    return refusal(8);
+                }
+                seen = mark(seen, f.tag);
+                found = chosen(found, f, kind);
+            }
+            Judged::Bad => return refusal(8),
+        }
+        at = 3 + f.size + at;
+    }
+    found
+}

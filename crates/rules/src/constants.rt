@@ -1,0 +1,20 @@
+// Constants of the code that mirror definitions. Contracts say what the code does with them, so none need be believed.
+
+// The other limits of specs/Limits.
+pub const MAX_ENTRIES: usize = 16;
+
+pub const MAX_OWNER: u8 = 15;
+
+pub const MAX_BLOCK: usize = 1024;
+
+// The known bits of specs/Osc.
+pub const KNOWN_CONTROL: u32 = 0x1f;
+
+pub const KNOWN_SUPPORT: u32 = 0x1f;
+
+// The bytes of a bus, a device and a function in a window of specs/Place.
+pub const BUS_BYTES: u64 = 0x10_0000;
+
+pub const DEVICE_BYTES: u64 = 0x8000;
+
+pub const FUNCTION_BYTES: u64 = 0x1000;
