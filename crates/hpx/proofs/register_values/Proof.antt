@@ -27,7 +27,7 @@ new-values-requires c κs =
     let a = s .before .before .before .before in (
       eight-numbers (now (a .args .current)) (a .pre),
       pairs-inside (now (a .args .slot)) (now (a .args .block)) (s .search .result) (s .search .ensures) (a .args .aer) (now (a .args .current))
-          (now (d .deciding .result)) (d .deciding .ensures) (c .if1 .left),
+          (now (d .deciding .result)) (d .deciding .ensures .0) (c .if1 .left),
     )
 
 returns-2 : tie.Need-returns-2
@@ -39,7 +39,7 @@ returns-2 c =
       sym (e .if1 .left) ∙ number-found (now (a .slot)) (now (a .block)) 2 (s .search .result) (s .search .ensures),
       c .new-values .ensures
           ∙ values-found (now (a .slot)) (now (a .block)) (s .search .result) (s .search .ensures) (a .aer) (now (a .current))
-          (now (d .deciding .result)) (d .deciding .ensures) (e .if1 .left),
+          (now (d .deciding .result)) (d .deciding .ensures .0) (e .if1 .left),
     )
 
 pub register-values-spec : {M : Type 1} → statement M

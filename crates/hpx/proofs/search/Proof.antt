@@ -14,7 +14,7 @@ search-block-requires : tie.Need-search-block-requires
 search-block-requires c κs = search needs
 
 returns : tie.Need-returns
-returns c = c .search-block .ensures ∙ ap (λ (l : List ℕ). findRecord [] l (c .before .before .before .before .args .kind)) (c .before .deciding .ensures)
+returns c = c .search-block .ensures ∙ ap (λ (l : List ℕ). findRecord [] l (c .before .before .before .before .args .kind)) (c .before .deciding .ensures .0)
 
 pub search-spec : {M : Type 1} → statement M
 search-spec = tie.close (tie.spec deciding-requires search-block-requires returns)
