@@ -49,11 +49,11 @@ pub fn reset(t: Table, s: SessionNumber, n: BridgeNumber) -> TableDone
     let i = (n.0 as usize) % MAX_ROWS;
     let done = rows::reset(t.count, t.bridges[i], s, n);
     let row = done.row;
-    let mut table = t;
-    table.bridges[i] = row;
+    let mut next = t;
+    next.bridges[i] = row;
     TableDone {
         number: done.number,
-        table,
+        table: next,
     }
 }
 
@@ -83,12 +83,12 @@ pub fn osc(
     let i = (n.0 as usize) % MAX_ROWS;
     let b = t.bridges[i];
     let done = rows::osc(t.count, b, s, n, revision, count, uuid, caps, answer);
-    let next = done.row;
-    let mut table = t;
-    table.bridges[i] = next;
+    let row = done.row;
+    let mut after = t;
+    after.bridges[i] = row;
     TableDone {
         number: done.number,
-        table,
+        table: after,
     }
 }
 

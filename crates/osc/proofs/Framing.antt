@@ -1,12 +1,12 @@
 -- What a framed call has, and what the error status says.
-use Prim.Native.Nat.{ℕ, _*_, _≤_}
+use Prim.Native.Nat.{ℕ, _*_, _≤_, _<_}
 use mathlib.Core.Path.{_≡_, refl, sym, _∙_}
-use mathlib.Core.Bool.{Bool, true, false, cond, not, _&&_}
+use mathlib.Core.Bool.{Bool, true, false, cond, not, _&&_, _||_}
 use mathlib.Core.List.{List}
 use native.Mathlib.Omega.{arith}
 use lib.Dec.{eqb, ltb}
 use lib.ListN.{length}
-use borrow.Author.Tests.{eqb-true, eqb-false, not-false}
+use borrow.Author.Tests.{eqb-true, eqb-false, eq-eqb, ne-eqb, lt-ltb, le-ltb, not-false}
 use Rattle.rules.specs.Numbers.{sameBytes}
 use Rattle.rules.specs.Osc.{uuidBytes, framingBad, recognised, errorStatus}
 use Rattle.rules.proofs.Tests.{or-false, and-true}
@@ -29,6 +29,26 @@ framed count uuid caps answer e =
       capabilities-long = eqb-true (length caps) (4 * count) (not-false (eqb (length caps) (4 * count)) (c .1));
       answer-long = eqb-true (length answer) (4 * count) (not-false (eqb (length answer) (4 * count)) (a .1));
     }
+
+-- refusal 3, test by test
+module _ (count : ℕ) (uuid caps answer : List ℕ) where
+  pub uuid-length : (length uuid ≡ 16 → ⊥) → true ≡ framingBad count uuid caps answer
+  unfolding framingBad
+  uuid-length n = rw (ne-eqb (length uuid) 16 n)
+
+  module _ (u : length uuid ≡ 16) where
+    pub count-zero : count ≡ 0 → true ≡ framingBad count uuid caps answer
+    unfolding framingBad
+    count-zero z = rw (eq-eqb (length uuid) 16 u, eq-eqb count 0 z)
+
+    module _ (n : count ≡ 0 → ⊥) where
+      pub count-above : 8 < count → true ≡ framingBad count uuid caps answer
+      unfolding framingBad
+      count-above h = rw (eq-eqb (length uuid) 16 u, ne-eqb count 0 n, lt-ltb 8 count h)
+
+      pub lengths-left : count ≤ 8 → not (eqb (length caps) (4 * count)) || not (eqb (length answer) (4 * count)) ≡ framingBad count uuid caps answer
+      unfolding framingBad
+      lengths-left h = rw (eq-eqb (length uuid) 16 u, ne-eqb count 0 n, le-ltb 8 count h)
 
 -- an error status is never 0
 error-not-zero : (revision : ℕ) (uuid : List ℕ) → errorStatus revision uuid ≡ 0 → ⊥

@@ -22,11 +22,11 @@ element-copy-out-b c = search needs
 osc-requires : tie.Need-osc-requires
 osc-requires c κs = search needs
 
-mul-next : tie.Need-mul-next
-mul-next c = search needs
+mul-row : tie.Need-mul-row
+mul-row c = search needs
 
-element-set-from-next : tie.Need-element-set-from-next
-element-set-from-next c = search needs
+element-set-from-row : tie.Need-element-set-from-row
+element-set-from-row c = search needs
 
 same-length : tie.Need-same-length
 same-length c = search needs
@@ -49,7 +49,7 @@ osc-spec =
     mul-b
     element-copy-out-b
     osc-requires
-    mul-next
-    element-set-from-next
+    mul-row
+    element-set-from-row
     same-length
     returns)

@@ -1,28 +1,32 @@
 -- `osc::framing_bad` meets its contract: at each return the tests that led there pick the case.
-use borrow.Author.Tests.{eq-eqb, ne-eqb, lt-ltb, le-ltb}
-use Rattle.rules.specs.Osc.{framingBad}
+use denote.Ref.{now}
 use borrow.Author.Needs.{needs}
+use Rattle.osc.proofs.Framing.{uuid-length, count-zero, count-above, lengths-left}
 use Rattle.osc.proofs.framing_bad.Statement.{statement}
 use Rattle.osc.proofs.framing_bad.Tie as tie
 
 returns : tie.Need-returns
-unfolding framingBad
-returns c = simp (ne-eqb _ _ (c .if1 .taken))
+returns c =
+    let a = c .before .args in
+    uuid-length (a .count) (now (a .uuid)) (now (a .caps)) (now (a .answer)) (c .if1 .taken)
 
 returns-2 : tie.Need-returns-2
-unfolding framingBad
-returns-2 c = simp (eq-eqb _ _ (c .before .if1 .left), eq-eqb _ _ (c .if2 .taken))
+returns-2 c =
+    let a = c .before .before .args in
+    count-zero (a .count) (now (a .uuid)) (now (a .caps)) (now (a .answer)) (c .before .if1 .left) (c .if2 .taken)
 
 returns-3 : tie.Need-returns-3
-unfolding framingBad
-returns-3 c = simp (eq-eqb _ _ (c .before .before .if1 .left), ne-eqb _ _ (c .before .if2 .left), lt-ltb _ _ (c .if3 .taken))
+returns-3 c =
+    let a = c .before .before .before .args in
+    count-above (a .count) (now (a .uuid)) (now (a .caps)) (now (a .answer)) (c .before .before .if1 .left) (c .before .if2 .left) (c .if3 .taken)
 
 mul-bytes : tie.Need-mul-bytes
 mul-bytes c = search needs
 
 returns-4 : tie.Need-returns-4
-unfolding framingBad
-returns-4 c = simp (eq-eqb _ _ (c .before .before .if1 .left), ne-eqb _ _ (c .before .if2 .left), le-ltb _ _ (c .if3 .left))
+returns-4 c =
+    let a = c .before .before .before .args in
+    lengths-left (a .count) (now (a .uuid)) (now (a .caps)) (now (a .answer)) (c .before .before .if1 .left) (c .before .if2 .left) (c .if3 .left)
 
 pub framing-bad-spec : {M : Type 1} → statement M
 framing-bad-spec = tie.close (tie.spec returns returns-2 returns-3 mul-bytes returns-4)
