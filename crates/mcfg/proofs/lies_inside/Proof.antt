@@ -1,0 +1,10 @@
+-- `mcfg::lies_inside` meets its contract: each test is the definition's.
+use borrow.Author.Needs.{needs}
+use Rattle.mcfg.proofs.lies_inside.Statement.{statement}
+use Rattle.mcfg.proofs.lies_inside.Tie as tie
+
+returns : tie.Need-returns
+returns c = search needs
+
+pub lies-inside-spec : {M : Type 1} → statement M
+lies-inside-spec = tie.close (tie.spec returns)
