@@ -9,7 +9,7 @@ use Rattle.rules.specs.Lists.{every, pairwise}
 use Rattle.rules.specs.Numbers.{byte, word, dword, qword, sum, sameBytes}
 use Rattle.rules.specs.declared.Entry.{Entry}
 
--- the entry at byte i
+-- the entry at byte i: "base 8, segment 2, start bus 1, end bus 1, reserved 4"
 abbrev pub entryAt : List ℕ → ℕ → Entry
 entryAt m i = record { base = qword m i; segment = word m (8 + i); «start_bus» = byte m (10 + i); «end_bus» = byte m (11 + i) }
 

@@ -13,7 +13,7 @@ use Rattle.rules.specs.Refusals.{Refusal, _if_, firstOf}
 use Rattle.rules.specs.declared.Field.{Field}
 use Rattle.rules.specs.declared.Found.{Found}
 
--- the field at byte i
+-- the field at byte i: "tag (record type, 1 byte), length (2 bytes, little-endian)"
 abbrev pub fieldAt : List ℕ → ℕ → Field
 fieldAt l i = record { start = i; tag = byte l i; size = word l (1 + i) }
 

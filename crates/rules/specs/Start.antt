@@ -107,6 +107,6 @@ pub record Sound (t : Table) : Type 0 where
       → (a : ℕ) → inWindow a (bridgeAt t i) ≡ true → inWindow a (bridgeAt t j) ≡ true → ⊥
   pub window-ends : (i : ℕ) → i < t .count → busEnd (bridgeAt t i .base) (bridgeAt t i .«last_bus») ≤ 2 ^ 64
 
--- the same of one row that a call is handed, whose bridge number may be absent
+-- what a call on one row may require of it, as `Sound` gives it: where the bridge is in the table, its window ends at 2^64 at most
 abbrev pub RowSound : (bridges : ℕ) → BridgeNumber → Bridge → Type 0
 RowSound bridges n b = n .0 < bridges → busEnd (b .base) (b .«last_bus») ≤ 2 ^ 64

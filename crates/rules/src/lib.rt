@@ -46,7 +46,7 @@ pub struct Table {
     pub count: usize,
 }
 
-// What a bridge holds: its held and its supported bits in the table.
+// "What a bridge holds is its held and its supported bits in the table."
 #[repr(C)]
 pub struct Holding {
     pub held: u32,
@@ -61,7 +61,7 @@ pub struct Entry {
     pub end_bus: u8,
 }
 
-// Where an address lies.
+// A place: "bridge, bus, device, function and offset".
 #[repr(C)]
 pub struct Place {
     pub bridge: BridgeNumber,

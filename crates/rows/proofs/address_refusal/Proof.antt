@@ -1,55 +1,69 @@
 -- `rows::address_refusal` meets its contract: 1 and 2 first, then 5, then 4.
-use mathlib.Core.Path.{_∙_, sym}
-use mathlib.Core.List.{[], _∷_}
-use Rattle.rules.specs.Refusals.{_if_}
-use Rattle.rules.specs.Place.{placeBad, busOutside}
-use Rattle.rows.proofs.ByNumber.{given, passed, front, past, firstTwo}
+use Prim.Native.Nat.{ℕ}
+use mathlib.Core.Bool.{Bool}
+use mathlib.Core.Path.{_≡_, _∙_, sym}
+use mathlib.Core.List.{List, [], _∷_}
 use native.Mathlib.Omega.{arith}
+use Rattle.rules.specs.Refusals.{Refusal, _if_, firstOf}
+use Rattle.rules.specs.Place.{placeBad, busOutside}
+use Rattle.rules.specs.Calls.{address, numberAt}
+use Rattle.rows.proofs.ByNumber.{given, passed, front, past, firstTwo}
 use borrow.Author.Needs.{needs}
 use Rattle.rows.proofs.address_refusal.Statement.{statement}
 use Rattle.rows.proofs.address_refusal.Tie as tie
+
+-- the tests of 5 and 4
+module _ (c : tie.Start) where
+  abbrev bad : Bool
+  bad = placeBad (c .args .device) (c .args .function) (c .args .offset) (c .args .width)
+
+  abbrev outside : Bool
+  outside = busOutside (c .args .row) (c .args .bus)
+
+  abbrev two : List Refusal
+  two = firstTwo (c .args .bridges) (c .args .s) (c .args .n) (c .args .row)
+
+  abbrev number : ℕ
+  number = numberAt (c .args .bridges) (c .args .s) (c .args .n) (c .args .row) (address (c .args .bus) (c .args .device) (c .args .function) (c .args .offset) (c .args .width))
+
+-- neither 1 nor 2: the rest of the list decides
+rest : (c : tie.Else1) → firstOf ((5 if bad (c .before .before)) ∷ (4 if outside (c .before .before)) ∷ []) ≡ number (c .before .before)
+rest c =
+    let e = c .before .before in
+    past (two e) ((5 if bad e) ∷ (4 if outside e) ∷ []) (omega arith) (c .before .refusal .result) (c .before .refusal .ensures) (c .if1 .left)
+
+-- nor 5
+last : (c : tie.Else2) → firstOf ((4 if outside (c .before .before .before .before)) ∷ []) ≡ number (c .before .before .before .before)
+last c =
+    let e = c .before .before .before .before in
+    passed 5 (bad e) ((4 if outside e) ∷ []) (sym (c .before .place-bad .ensures) ∙ c .if2 .left) ∙ rest (c .before .before)
 
 refusal-requires : tie.Need-refusal-requires
 refusal-requires c κs = search needs
 
 returns : tie.Need-returns
 returns c =
-    let a = c .before .before .args in
-    let p = placeBad (a .device) (a .function) (a .offset) (a .width) in
-    let q = busOutside (a .row) (a .bus) in
-    front (firstTwo (a .bridges) (a .s) (a .n) (a .row)) ((5 if p) ∷ (4 if q) ∷ []) (c .before .refusal .result) (c .before .refusal .ensures) (c .if1 .taken)
+    let e = c .before .before in
+    front (two e) ((5 if bad e) ∷ (4 if outside e) ∷ []) (c .before .refusal .result) (c .before .refusal .ensures) (c .if1 .taken)
 
 place-bad-requires : tie.Need-place-bad-requires
 place-bad-requires c κs = search needs
 
 returns-2 : tie.Need-returns-2
 returns-2 c =
-    let a = c .before .before .before .before .args in
-    let p = placeBad (a .device) (a .function) (a .offset) (a .width) in
-    let q = busOutside (a .row) (a .bus) in
-    given 5 p ((4 if q) ∷ []) (sym (c .before .place-bad .ensures) ∙ c .if2 .taken)
-    ∙ past (firstTwo (a .bridges) (a .s) (a .n) (a .row)) ((5 if p) ∷ (4 if q) ∷ []) (omega arith) (c .before .before .before .refusal .result) (c .before .before .before .refusal .ensures) (c .before .before .if1 .left)
+    let e = c .before .before .before .before in
+    given 5 (bad e) ((4 if outside e) ∷ []) (sym (c .before .place-bad .ensures) ∙ c .if2 .taken) ∙ rest (c .before .before)
 
 bus-outside-requires : tie.Need-bus-outside-requires
 bus-outside-requires c κs = search needs
 
 returns-3 : tie.Need-returns-3
 returns-3 c =
-    let a = c .before .before .before .before .before .before .args in
-    let p = placeBad (a .device) (a .function) (a .offset) (a .width) in
-    let q = busOutside (a .row) (a .bus) in
-    given 4 q [] (sym (c .before .bus-outside .ensures) ∙ c .if3 .taken)
-    ∙ passed 5 p ((4 if q) ∷ []) (sym (c .before .before .before .place-bad .ensures) ∙ c .before .before .if2 .left)
-    ∙ past (firstTwo (a .bridges) (a .s) (a .n) (a .row)) ((5 if p) ∷ (4 if q) ∷ []) (omega arith) (c .before .before .before .before .before .refusal .result) (c .before .before .before .before .before .refusal .ensures) (c .before .before .before .before .if1 .left)
+    given 4 (outside (c .before .before .before .before .before .before)) [] (sym (c .before .bus-outside .ensures) ∙ c .if3 .taken) ∙ last (c .before .before)
 
 returns-4 : tie.Need-returns-4
 returns-4 c =
-    let a = c .before .before .before .before .before .before .args in
-    let p = placeBad (a .device) (a .function) (a .offset) (a .width) in
-    let q = busOutside (a .row) (a .bus) in
-    passed 4 q [] (sym (c .before .bus-outside .ensures) ∙ c .if3 .left)
-    ∙ passed 5 p ((4 if q) ∷ []) (sym (c .before .before .before .place-bad .ensures) ∙ c .before .before .if2 .left)
-    ∙ past (firstTwo (a .bridges) (a .s) (a .n) (a .row)) ((5 if p) ∷ (4 if q) ∷ []) (omega arith) (c .before .before .before .before .before .refusal .result) (c .before .before .before .before .before .refusal .ensures) (c .before .before .before .before .if1 .left)
+    passed 4 (outside (c .before .before .before .before .before .before)) [] (sym (c .before .bus-outside .ensures) ∙ c .if3 .left) ∙ last (c .before .before)
 
 pub address-refusal-spec : {M : Type 1} → statement M
 address-refusal-spec =

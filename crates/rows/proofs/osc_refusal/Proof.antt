@@ -1,40 +1,53 @@
 -- `rows::osc_refusal` meets its contract: 1 and 2 first, then the framing.
 use denote.Ref.{now}
-use mathlib.Core.Path.{_∙_, sym}
-use mathlib.Core.List.{[], _∷_}
-use Rattle.rules.specs.Refusals.{_if_}
-use Rattle.rules.specs.Osc.{framingBad}
-use Rattle.rows.proofs.ByNumber.{given, passed, front, past, firstTwo}
+use mathlib.Core.Bool.{Bool}
+use mathlib.Core.Path.{_≡_, _∙_, sym}
+use mathlib.Core.List.{List, [], _∷_}
 use native.Mathlib.Omega.{arith}
+use Rattle.rules.specs.Refusals.{Refusal, _if_, firstOf}
+use Rattle.rules.specs.Osc.{framingBad}
+use Rattle.rules.specs.Calls.{osc, numberAt}
+use Rattle.rows.proofs.ByNumber.{given, passed, front, past, firstTwo}
 use borrow.Author.Needs.{needs}
 use Rattle.rows.proofs.osc_refusal.Statement.{statement}
 use Rattle.rows.proofs.osc_refusal.Tie as tie
+
+-- the test of 3
+module _ (c : tie.Start) where
+  abbrev bad : Bool
+  bad = framingBad (c .args .count) (now (c .args .uuid)) (now (c .args .caps)) (now (c .args .answer))
+
+  abbrev two : List Refusal
+  two = firstTwo (c .args .bridges) (c .args .s) (c .args .n) (c .args .row)
+
+-- neither 1 nor 2: the rest of the list decides
+rest : (c : tie.Else1) → let e = c .before .before .before .before .before in
+    firstOf ((3 if bad e) ∷ [])
+    ≡ numberAt (e .args .bridges) (e .args .s) (e .args .n) (e .args .row) (osc 1 (e .args .count) (now (e .args .uuid)) (now (e .args .caps)) (now (e .args .answer)))
+rest c =
+    let e = c .before .before .before .before .before in
+    past (two e) ((3 if bad e) ∷ []) (omega arith) (c .before .refusal .result) (c .before .refusal .ensures) (c .if1 .left)
 
 refusal-requires : tie.Need-refusal-requires
 refusal-requires c κs = search needs
 
 returns : tie.Need-returns
 returns c =
-    let a = c .before .before .before .before .before .args in
-    let f = framingBad (a .count) (now (a .uuid)) (now (a .caps)) (now (a .answer)) in
-    front (firstTwo (a .bridges) (a .s) (a .n) (a .row)) ((3 if f) ∷ []) (c .before .refusal .result) (c .before .refusal .ensures) (c .if1 .taken)
+    let e = c .before .before .before .before .before in
+    front (two e) ((3 if bad e) ∷ []) (c .before .refusal .result) (c .before .refusal .ensures) (c .if1 .taken)
 
 framing-bad-requires : tie.Need-framing-bad-requires
 framing-bad-requires c κs = search needs
 
 returns-2 : tie.Need-returns-2
 returns-2 c =
-    let a = c .before .before .before .before .before .before .before .args in
-    let f = framingBad (a .count) (now (a .uuid)) (now (a .caps)) (now (a .answer)) in
-    given 3 f [] (sym (c .before .framing-bad .ensures) ∙ c .if2 .taken)
-    ∙ past (firstTwo (a .bridges) (a .s) (a .n) (a .row)) ((3 if f) ∷ []) (omega arith) (c .before .before .before .refusal .result) (c .before .before .before .refusal .ensures) (c .before .before .if1 .left)
+    given 3 (bad (c .before .before .before .before .before .before .before)) [] (sym (c .before .framing-bad .ensures) ∙ c .if2 .taken)
+    ∙ rest (c .before .before)
 
 returns-3 : tie.Need-returns-3
 returns-3 c =
-    let a = c .before .before .before .before .before .before .before .args in
-    let f = framingBad (a .count) (now (a .uuid)) (now (a .caps)) (now (a .answer)) in
-    passed 3 f [] (sym (c .before .framing-bad .ensures) ∙ c .if2 .left)
-    ∙ past (firstTwo (a .bridges) (a .s) (a .n) (a .row)) ((3 if f) ∷ []) (omega arith) (c .before .before .before .refusal .result) (c .before .before .before .refusal .ensures) (c .before .before .if1 .left)
+    passed 3 (bad (c .before .before .before .before .before .before .before)) [] (sym (c .before .framing-bad .ensures) ∙ c .if2 .left)
+    ∙ rest (c .before .before)
 
 pub osc-refusal-spec : {M : Type 1} → statement M
 osc-refusal-spec =

@@ -1,26 +1,52 @@
 -- `rows::values_refusal` meets its contract: 1 and 2 first, then 11, then 10.
 use denote.Ref.{now}
-use mathlib.Core.Path.{_∙_, sym, ap}
-use mathlib.Core.Bool.{not}
-use mathlib.Core.List.{[], _∷_}
+use mathlib.Core.Bool.{Bool, not}
+use mathlib.Core.Path.{_≡_, _∙_, sym, ap}
+use mathlib.Core.List.{List, [], _∷_}
 use native.Mathlib.Omega.{arith}
 use Rattle.rules.specs.Numbers.{bit}
-use Rattle.rules.specs.Refusals.{_if_}
+use Rattle.rules.specs.Refusals.{Refusal, _if_, firstOf}
 use Rattle.rules.specs.Records.{registersBad}
-use Rattle.rows.proofs.ByNumber.{given, passed, front, past, firstTwo}
+use Rattle.rows.proofs.ByNumber.{given, passed, front, past, firstTwo, firstFour}
 use borrow.Author.Needs.{needs}
 use Rattle.rows.proofs.values_refusal.Statement.{statement}
 use Rattle.rows.proofs.values_refusal.Tie as tie
+
+-- the tests of 11 and 10
+module _ (c : tie.Start) where
+  abbrev without : Bool
+  without = not (bit (c .args .row .held) 0)
+
+  abbrev bad : Bool
+  bad = registersBad (now (c .args .current))
+
+  abbrev two : List Refusal
+  two = firstTwo (c .args .bridges) (c .args .s) (c .args .n) (c .args .row)
+
+  abbrev four : List Refusal
+  four = firstFour (c .args .bridges) (c .args .s) (c .args .n) (c .args .row) (now (c .args .current))
+
+-- neither 1 nor 2: the rest of the list decides
+rest : (c : tie.Else1)
+    → firstOf ((11 if without (c .before .before .before)) ∷ (10 if bad (c .before .before .before)) ∷ []) ≡ firstOf (four (c .before .before .before))
+rest c =
+    let e = c .before .before .before in
+    past (two e) ((11 if without e) ∷ (10 if bad e) ∷ []) (omega arith) (c .before .refusal .result) (c .before .refusal .ensures) (c .if1 .left)
+
+-- nor 11
+last : (c : tie.Then2)
+    → firstOf ((10 if bad (c .before .before .before .before .before)) ∷ []) ≡ firstOf (four (c .before .before .before .before .before))
+last c =
+    let e = c .before .before .before .before .before in
+    passed 11 (without e) ((10 if bad e) ∷ []) (ap not (sym (c .before .holds-hot-plug .ensures) ∙ c .if2 .taken)) ∙ rest (c .before .before)
 
 refusal-requires : tie.Need-refusal-requires
 refusal-requires c κs = search needs
 
 returns : tie.Need-returns
 returns c =
-    let a = c .before .before .before .args in
-    let h = not (bit (a .row .held) 0) in
-    let g = registersBad (now (a .current)) in
-    front (firstTwo (a .bridges) (a .s) (a .n) (a .row)) ((11 if h) ∷ (10 if g) ∷ []) (c .before .refusal .result) (c .before .refusal .ensures) (c .if1 .taken)
+    let e = c .before .before .before in
+    front (two e) ((11 if without e) ∷ (10 if bad e) ∷ []) (c .before .refusal .result) (c .before .refusal .ensures) (c .if1 .taken)
 
 holds-hot-plug-requires : tie.Need-holds-hot-plug-requires
 holds-hot-plug-requires c κs = search needs
@@ -30,29 +56,18 @@ registers-bad-requires c κs = search needs
 
 returns-2 : tie.Need-returns-2
 returns-2 c =
-    let a = c .before .before .before .before .before .before .before .args in
-    let h = not (bit (a .row .held) 0) in
-    let g = registersBad (now (a .current)) in
-    given 10 g [] (sym (c .before .registers-bad .ensures) ∙ c .if3 .taken)
-    ∙ passed 11 h ((10 if g) ∷ []) (ap not (sym (c .before .before .before .holds-hot-plug .ensures) ∙ c .before .before .if2 .taken))
-    ∙ past (firstTwo (a .bridges) (a .s) (a .n) (a .row)) ((11 if h) ∷ (10 if g) ∷ []) (omega arith) (c .before .before .before .before .before .refusal .result) (c .before .before .before .before .before .refusal .ensures) (c .before .before .before .before .if1 .left)
+    given 10 (bad (c .before .before .before .before .before .before .before)) [] (sym (c .before .registers-bad .ensures) ∙ c .if3 .taken)
+    ∙ last (c .before .before)
 
 returns-3 : tie.Need-returns-3
 returns-3 c =
-    let a = c .before .before .before .before .before .before .before .args in
-    let h = not (bit (a .row .held) 0) in
-    let g = registersBad (now (a .current)) in
-    passed 10 g [] (sym (c .before .registers-bad .ensures) ∙ c .if3 .left)
-    ∙ passed 11 h ((10 if g) ∷ []) (ap not (sym (c .before .before .before .holds-hot-plug .ensures) ∙ c .before .before .if2 .taken))
-    ∙ past (firstTwo (a .bridges) (a .s) (a .n) (a .row)) ((11 if h) ∷ (10 if g) ∷ []) (omega arith) (c .before .before .before .before .before .refusal .result) (c .before .before .before .before .before .refusal .ensures) (c .before .before .before .before .if1 .left)
+    passed 10 (bad (c .before .before .before .before .before .before .before)) [] (sym (c .before .registers-bad .ensures) ∙ c .if3 .left)
+    ∙ last (c .before .before)
 
 returns-4 : tie.Need-returns-4
 returns-4 c =
-    let a = c .before .before .before .before .before .args in
-    let h = not (bit (a .row .held) 0) in
-    let g = registersBad (now (a .current)) in
-    given 11 h ((10 if g) ∷ []) (ap not (sym (c .before .holds-hot-plug .ensures) ∙ c .if2 .left))
-    ∙ past (firstTwo (a .bridges) (a .s) (a .n) (a .row)) ((11 if h) ∷ (10 if g) ∷ []) (omega arith) (c .before .before .before .refusal .result) (c .before .before .before .refusal .ensures) (c .before .before .if1 .left)
+    let e = c .before .before .before .before .before in
+    given 11 (without e) ((10 if bad e) ∷ []) (ap not (sym (c .before .holds-hot-plug .ensures) ∙ c .if2 .left)) ∙ rest (c .before .before)
 
 pub values-refusal-spec : {M : Type 1} → statement M
 values-refusal-spec =
