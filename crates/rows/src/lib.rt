@@ -7,6 +7,8 @@ use rules::SessionNumber;
 ghost use mathlib.Core.Path.{_≡_};
 ghost use mathlib.Core.List.{[], _∷_};
 ghost use mathlib.Core.Bool.{not};
+ghost use lib.Bits.{bitAnd};
+ghost use lib.Dec.{eqb};
 ghost use Rattle.rules.specs.Numbers.{bit};
 ghost use Rattle.rules.specs.Refusals.{_if_, firstOf};
 ghost use Rattle.rules.specs.Place.{ownWindow};
@@ -29,6 +31,11 @@ ghost use Rattle.rules.specs.Calls.{
   outcomeAt,
   rowAfter,
 };
+
+// Control bits 0 and 3: Express hot plug and AER.
+const HOT_PLUG: u32 = 0x01;
+
+const AER: u32 = 0x08;
 
 // A number, and the row after the call.
 #[repr(C)]
@@ -188,17 +195,11 @@ pub fn address(
     Addressed { number: 0, address }
 }
 
-// Whether the bridge holds a control bit: 0 is Express hot plug, 3 is AER.
-fn holds_hot_plug(row: Bridge) -> bool
-    ensures { λ r. ⌜ r ≡ bit (row .held) 0 ⌝ }
+// Whether the bridge holds a control bit of the mask.
+fn holds(row: Bridge, mask: u32) -> bool
+    ensures { λ r. ⌜ r ≡ not (eqb (bitAnd (row .held) mask) 0) ⌝ }
 {
-    row.held & 0x01 != 0
-}
-
-fn holds_aer(row: Bridge) -> bool
-    ensures { λ r. ⌜ r ≡ bit (row .held) 3 ⌝ }
-{
-    row.held & 0x08 != 0
+    row.held & mask != 0
 }
 
 // Refusals 1, 2, 11 and 10; 8 and 9 come after them.
@@ -215,7 +216,7 @@ fn values_refusal(
     if number != 0 {
         return number;
     }
-    if holds_hot_plug(row) {
+    if holds(row, HOT_PLUG) {
         if hpx::registers_bad(current) {
             return 10;
         }
@@ -243,7 +244,7 @@ pub fn register_values<'a>(
             values: [0; 8],
         };
     }
-    hpx::register_values(slot, block, current, holds_aer(row))
+    hpx::register_values(slot, block, current, holds(row, AER))
 }
 
 // Whether an address lies in the bridge, which is of the session.

@@ -2,7 +2,7 @@
 use mathlib.Core.Path.{refl, _∙_}
 use Rattle.rules.specs.Limits.{maxRows}
 use Rattle.rules.specs.Calls.{address}
-use Rattle.bridges.proofs.Slots.{slot-outcome, slot-sound, table-kept}
+use Rattle.bridges.proofs.AtIndex.{index-outcome, index-sound, table-kept}
 use borrow.Author.Needs.{needs}
 use Rattle.bridges.proofs.address.Statement.{statement}
 use Rattle.bridges.proofs.address.Tie as tie
@@ -20,14 +20,14 @@ address-requires : tie.Need-address-requires
 unfolding maxRows
 address-requires c κs =
     let a = c .before .before in
-    slot-sound (a .args .t1) maxRows (a .pre .few) (a .args .s) (a .args .n) (address (a .args .bus) (a .args .device) (a .args .function) (a .args .offset) (a .args .width)) (a .pre)
+    index-sound (a .args .t1) maxRows (a .pre .few) (a .args .s) (a .args .n) (address (a .args .bus) (a .args .device) (a .args .function) (a .args .offset) (a .args .width)) (a .pre)
 
 returns : tie.Need-returns
 unfolding maxRows
 returns c =
     let a = c .before .before .before in
     let o = address (a .args .bus) (a .args .device) (a .args .function) (a .args .offset) (a .args .width) in (
-      c .address .ensures ∙ slot-outcome (a .args .t1) maxRows (a .pre .few) (a .args .s) (a .args .n) o,
+      c .address .ensures ∙ index-outcome (a .args .t1) maxRows (a .pre .few) (a .args .s) (a .args .n) o,
       table-kept (a .args .t1) maxRows (a .pre .few) (a .args .s) (a .args .n) o (λ b. refl),
     )
 

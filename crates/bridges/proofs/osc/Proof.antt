@@ -5,7 +5,7 @@ use mathlib.Core.Path.{ap, _∙_}
 use Rattle.rules.specs.Limits.{maxRows}
 use Rattle.rules.specs.Tables.{withBridge}
 use Rattle.rules.specs.Calls.{osc}
-use Rattle.bridges.proofs.Slots.{slot-outcome, slot-table}
+use Rattle.bridges.proofs.AtIndex.{index-outcome, index-table}
 use borrow.Author.Needs.{needs}
 use Rattle.bridges.proofs.osc.Statement.{statement}
 use Rattle.bridges.proofs.osc.Tie as tie
@@ -36,9 +36,9 @@ unfolding maxRows
 returns c =
     let a = c .before .before .before .before .before .before .before .before .before .before in
     let o = osc (a .args .revision) (a .args .count) (now (a .args .uuid)) (now (a .args .caps)) (now (a .args .answer)) in (
-      c .before .before .before .osc .ensures .0 ∙ slot-outcome (a .args .t1) maxRows (a .pre .few) (a .args .s) (a .args .n) o,
+      c .before .before .before .osc .ensures .0 ∙ index-outcome (a .args .t1) maxRows (a .pre .few) (a .args .s) (a .args .n) o,
       ap (withBridge (a .args .t1) (a .args .n .0 % maxRows)) (c .before .before .before .osc .ensures .1)
-          ∙ slot-table (a .args .t1) maxRows (a .pre .few) (a .args .s) (a .args .n) o,
+          ∙ index-table (a .args .t1) maxRows (a .pre .few) (a .args .s) (a .args .n) o,
     )
 
 pub osc-spec : {M : Type 1} → statement M

@@ -3,7 +3,7 @@ use denote.Ref.{now}
 use mathlib.Core.Path.{refl, _∙_}
 use Rattle.rules.specs.Limits.{maxRows}
 use Rattle.rules.specs.Calls.{registerValues}
-use Rattle.bridges.proofs.Slots.{slot-outcome, table-kept}
+use Rattle.bridges.proofs.AtIndex.{index-outcome, table-kept}
 use borrow.Author.Needs.{needs}
 use Rattle.bridges.proofs.register_values.Statement.{statement}
 use Rattle.bridges.proofs.register_values.Tie as tie
@@ -25,7 +25,7 @@ unfolding maxRows
 returns c =
     let a = c .before .before .before .before .before .before in
     let o = registerValues (now (a .args .slot)) (now (a .args .block)) (now (a .args .current)) in (
-      c .register-values .ensures ∙ slot-outcome (a .args .t1) maxRows (a .pre .few) (a .args .s) (a .args .n) o,
+      c .register-values .ensures ∙ index-outcome (a .args .t1) maxRows (a .pre .few) (a .args .s) (a .args .n) o,
       table-kept (a .args .t1) maxRows (a .pre .few) (a .args .s) (a .args .n) o (λ b. refl),
     )
 

@@ -2,7 +2,7 @@
 use mathlib.Core.Path.{refl, _∙_}
 use Rattle.rules.specs.Limits.{maxRows}
 use Rattle.rules.specs.Calls.{report}
-use Rattle.bridges.proofs.Slots.{slot-outcome, table-kept}
+use Rattle.bridges.proofs.AtIndex.{index-outcome, table-kept}
 use borrow.Author.Needs.{needs}
 use Rattle.bridges.proofs.report.Statement.{statement}
 use Rattle.bridges.proofs.report.Tie as tie
@@ -23,7 +23,7 @@ returns : tie.Need-returns
 unfolding maxRows
 returns c =
     let a = c .before .before .before in (
-      c .report .ensures ∙ slot-outcome (a .args .t1) maxRows (a .pre .few) (a .args .s) (a .args .n) report,
+      c .report .ensures ∙ index-outcome (a .args .t1) maxRows (a .pre .few) (a .args .s) (a .args .n) report,
       table-kept (a .args .t1) maxRows (a .pre .few) (a .args .s) (a .args .n) report (λ b. refl),
     )
 

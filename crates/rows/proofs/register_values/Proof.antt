@@ -1,6 +1,8 @@
 -- `rows::register_values` meets its contract: 1, 2, 11 and 10 are `values_refusal`'s; 8, 9 and the values are the record search's.
 use denote.Ref.{now}
 use native.Mathlib.Omega.{arith}
+use mathlib.Core.Path.{_∙_}
+use Rattle.rules.proofs.Bits.{mask-test}
 use Rattle.rules.specs.Records.{recordRefusals}
 use Rattle.rules.specs.Calls.{registerValues}
 use Rattle.rows.proofs.ByNumber.{front, past, firstFour, outcome-refused, registers-good, values-outcome}
@@ -17,8 +19,8 @@ returns c =
     let f = c .before .values-refusal in
     outcome-refused (a .row) (registerValues (now (a .slot)) (now (a .block)) (now (a .current))) (f .result) _ (front (firstFour (a .bridges) (a .s) (a .n) (a .row) (now (a .current))) (recordRefusals (now (a .slot)) (now (a .block)) 2) (f .result) (f .ensures) (c .if1 .taken)) (c .if1 .taken)
 
-holds-aer-requires : tie.Need-holds-aer-requires
-holds-aer-requires c κs = search needs
+holds-requires : tie.Need-holds-requires
+holds-requires c κs = search needs
 
 register-values-requires : tie.Need-register-values-requires
 register-values-requires c κs =
@@ -31,7 +33,7 @@ returns-2 c =
     let a = c .before .before .before .before .before .before .before .args in
     let f = c .before .before .before .values-refusal in
     let v = c .register-values in
-    values-outcome (a .row) (now (a .slot)) (now (a .block)) (now (a .current)) (c .before .holds-aer .result) (v .result .number) _ _ (v .result .values) (c .before .holds-aer .ensures) (v .ensures .0) (past (firstFour (a .bridges) (a .s) (a .n) (a .row) (now (a .current))) (recordRefusals (now (a .slot)) (now (a .block)) 2) (omega arith) (f .result) (f .ensures) (c .before .before .if1 .left)) (v .ensures .1)
+    values-outcome (a .row) (now (a .slot)) (now (a .block)) (now (a .current)) (c .before .holds .result) (v .result .number) _ _ (v .result .values) (c .before .holds .ensures ∙ mask-test (a .row .held) 3) (v .ensures .0) (past (firstFour (a .bridges) (a .s) (a .n) (a .row) (now (a .current))) (recordRefusals (now (a .slot)) (now (a .block)) 2) (omega arith) (f .result) (f .ensures) (c .before .before .if1 .left)) (v .ensures .1)
 
 pub register-values-spec : {M : Type 1} → statement M
 register-values-spec =
@@ -39,6 +41,6 @@ register-values-spec =
     (tie.spec
     values-refusal-requires
     returns
-    holds-aer-requires
+    holds-requires
     register-values-requires
     returns-2)

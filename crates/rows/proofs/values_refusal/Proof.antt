@@ -7,6 +7,7 @@ use native.Mathlib.Omega.{arith}
 use Rattle.rules.specs.Numbers.{bit}
 use Rattle.rules.specs.Refusals.{Refusal, _if_, firstOf}
 use Rattle.rules.specs.Records.{registersBad}
+use Rattle.rules.proofs.Bits.{mask-test}
 use Rattle.rows.proofs.ByNumber.{given, passed, front, past, firstTwo, firstFour}
 use borrow.Author.Needs.{needs}
 use Rattle.rows.proofs.values_refusal.Statement.{statement}
@@ -38,7 +39,7 @@ last : (c : tie.Then2)
     → firstOf ((10 if bad (c .before .before .before .before .before)) ∷ []) ≡ firstOf (four (c .before .before .before .before .before))
 last c =
     let e = c .before .before .before .before .before in
-    passed 11 (without e) ((10 if bad e) ∷ []) (ap not (sym (c .before .holds-hot-plug .ensures) ∙ c .if2 .taken)) ∙ rest (c .before .before)
+    passed 11 (without e) ((10 if bad e) ∷ []) (ap not (sym (c .before .holds .ensures ∙ mask-test (e .args .row .held) 0) ∙ c .if2 .taken)) ∙ rest (c .before .before)
 
 refusal-requires : tie.Need-refusal-requires
 refusal-requires c κs = search needs
@@ -48,8 +49,8 @@ returns c =
     let e = c .before .before .before in
     front (two e) ((11 if without e) ∷ (10 if bad e) ∷ []) (c .before .refusal .result) (c .before .refusal .ensures) (c .if1 .taken)
 
-holds-hot-plug-requires : tie.Need-holds-hot-plug-requires
-holds-hot-plug-requires c κs = search needs
+holds-requires : tie.Need-holds-requires
+holds-requires c κs = search needs
 
 registers-bad-requires : tie.Need-registers-bad-requires
 registers-bad-requires c κs = search needs
@@ -67,7 +68,7 @@ returns-3 c =
 returns-4 : tie.Need-returns-4
 returns-4 c =
     let e = c .before .before .before .before .before in
-    given 11 (without e) ((10 if bad e) ∷ []) (ap not (sym (c .before .holds-hot-plug .ensures) ∙ c .if2 .left)) ∙ rest (c .before .before)
+    given 11 (without e) ((10 if bad e) ∷ []) (ap not (sym (c .before .holds .ensures ∙ mask-test (e .args .row .held) 0) ∙ c .if2 .left)) ∙ rest (c .before .before)
 
 pub values-refusal-spec : {M : Type 1} → statement M
 values-refusal-spec =
@@ -75,7 +76,7 @@ values-refusal-spec =
     (tie.spec
     refusal-requires
     returns
-    holds-hot-plug-requires
+    holds-requires
     registers-bad-requires
     returns-2
     returns-3

@@ -25,34 +25,34 @@ absent-number bridges s n b (address bus device function offset width) e = rw e
 absent-number bridges s n b (registerValues slot block current) e = rw e
 
 module _ (t : Table) (rows : ℕ) (few : t .count ≤ rows) (s : SessionNumber) (n : BridgeNumber) (o : Operation) where
-  abbrev slot : ℕ
-  slot = n .0 % rows
+  abbrev index : ℕ
+  index = n .0 % rows
 
   -- the place of a bridge that the table has is its number
-  there : n .0 < t .count → slot ≡ n .0
+  there : n .0 < t .count → index ≡ n .0
   there h = mod-eq-of-lt (omega arith)
 
   refused : t .count ≤ n .0 → (i : ℕ) → numberAt (t .count) s n (bridgeAt t i) o ≡ 1
   refused h i = absent-number (t .count) s n (bridgeAt t i) o (le-leb (t .count) (n .0) h)
 
-  pub slot-outcome : outcomeAt (t .count) s n (bridgeAt t slot) o ≡ step t (on s n o) .outcome
+  pub index-outcome : outcomeAt (t .count) s n (bridgeAt t index) o ≡ step t (on s n o) .outcome
   unfolding step
-  slot-outcome = elim (decLt (n .0) (t .count)) [ yes h ↦ ap (λ (i : ℕ). outcomeAt (t .count) s n (bridgeAt t i) o) (there h) | no h ↦ out (omega arith) ]
+  index-outcome = elim (decLt (n .0) (t .count)) [ yes h ↦ ap (λ (i : ℕ). outcomeAt (t .count) s n (bridgeAt t i) o) (there h) | no h ↦ out (omega arith) ]
     where
-      out : t .count ≤ n .0 → outcomeAt (t .count) s n (bridgeAt t slot) o ≡ outcomeAt (t .count) s n (bridgeAt t (n .0)) o
+      out : t .count ≤ n .0 → outcomeAt (t .count) s n (bridgeAt t index) o ≡ outcomeAt (t .count) s n (bridgeAt t (n .0)) o
       out h =
-          ap (λ (k : ℕ). outcomeBy k (bridgeAt t slot) o) (refused h slot)
+          ap (λ (k : ℕ). outcomeBy k (bridgeAt t index) o) (refused h index)
           ∙ sym (ap (λ (k : ℕ). outcomeBy k (bridgeAt t (n .0)) o) (refused h (n .0)))
 
-  pub slot-table : withBridge t slot (rowAfter (t .count) s n (bridgeAt t slot) o) ≡ step t (on s n o) .table
+  pub index-table : withBridge t index (rowAfter (t .count) s n (bridgeAt t index) o) ≡ step t (on s n o) .table
   unfolding step
-  slot-table = elim (decLt (n .0) (t .count)) [ yes h ↦ ap (λ (i : ℕ). withBridge t i (rowAfter (t .count) s n (bridgeAt t i) o)) (there h) | no h ↦ out (omega arith) ]
+  index-table = elim (decLt (n .0) (t .count)) [ yes h ↦ ap (λ (i : ℕ). withBridge t i (rowAfter (t .count) s n (bridgeAt t i) o)) (there h) | no h ↦ out (omega arith) ]
     where
       kept : (i : ℕ) → t .count ≤ n .0 → withBridge t i (rowAfter (t .count) s n (bridgeAt t i) o) ≡ t
       kept i h = ap (λ (k : ℕ). withBridge t i (bridgeBy k (bridgeAt t i) o)) (refused h i) ∙ same-bridge t i
 
-      out : t .count ≤ n .0 → withBridge t slot (rowAfter (t .count) s n (bridgeAt t slot) o) ≡ withBridge t (n .0) (rowAfter (t .count) s n (bridgeAt t (n .0)) o)
-      out h = kept slot h ∙ sym (kept (n .0) h)
+      out : t .count ≤ n .0 → withBridge t index (rowAfter (t .count) s n (bridgeAt t index) o) ≡ withBridge t (n .0) (rowAfter (t .count) s n (bridgeAt t (n .0)) o)
+      out h = kept index h ∙ sym (kept (n .0) h)
 
   -- an operation that leaves what the bridge holds leaves the table
   pub table-kept : ((b : Bridge) → after b o ≡ holding b) → t ≡ step t (on s n o) .table
@@ -64,5 +64,5 @@ module _ (t : Table) (rows : ℕ) (few : t .count ≤ rows) (s : SessionNumber) 
       go (suc k) = refl
 
   -- the row in the place is sound where the table is
-  pub slot-sound : Sound t → RowSound (t .count) n (bridgeAt t slot)
-  slot-sound h l = subst (λ (i : ℕ). busEnd (bridgeAt t i .base) (bridgeAt t i .«last_bus») ≤ 2 ^ 64) (sym (there l)) (h .window-ends (n .0) l)
+  pub index-sound : Sound t → RowSound (t .count) n (bridgeAt t index)
+  index-sound h l = subst (λ (i : ℕ). busEnd (bridgeAt t i .base) (bridgeAt t i .«last_bus») ≤ 2 ^ 64) (sym (there l)) (h .window-ends (n .0) l)
