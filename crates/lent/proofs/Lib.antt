@@ -1,0 +1,5 @@
+pub mod RowIn
+pub mod Params
+pub mod RowSteps
+pub mod Reading
+pub mod InPlace
