@@ -3,3 +3,4 @@ pub mod Params
 pub mod RowSteps
 pub mod Reading
 pub mod InPlace
+pub mod Ends

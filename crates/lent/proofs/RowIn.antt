@@ -3,7 +3,7 @@
 --     row-out          as a step: row i is taken out, its machine value written out and its relation in hand
 --     row-in           as a step: row y is put in its place, and the table is there again
 -- The lemmas assume `Given`.
-use mathlib.Core.Path.{_≡_, refl, sym, _∙_, subst}
+use mathlib.Core.Path.{refl, sym, _∙_, subst}
 use Prim.Native.Nat.{ℕ, _+_, _*_, _<_}
 use mathlib.Core.List.{List, [], _∷_}
 use lib.ListN.{length, set, length-set}

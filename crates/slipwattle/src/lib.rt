@@ -1,0 +1,114 @@
+// The calls on the lent table: each works on one row in place and stores back what the call on the row hands back. The row of the bridge number modulo `MAX_ROWS` is read
+// whatever the number is; the call on the row refuses a bridge that the table has not.
+use hpx::Values;
+use rows::Addressed;
+use rows::Reported;
+use rules::BridgeNumber;
+use rules::MAX_ROWS;
+use rules::SessionNumber;
+use rules::Table;
+ghost use mathlib.Core.Path.{_≡_};
+ghost use mathlib.Core.List.{[], _∷_};
+ghost use Rattle.rules.specs.Start.{Sound};
+ghost use Rattle.rules.specs.Calls.{osc, reset, report, address, registerValues, on, nothing, reported, addressed, values, outcome, step};
+
+#[no_mangle]
+pub extern "C" fn slipwattle_reset(t: &mut Table, s: SessionNumber, n: BridgeNumber) -> u8
+    requires { ⌜ Sound (now t) ⌝ }
+    ensures { λ r. ⌜ (outcome r nothing [] ≡ step (now (t .entry)) (on s n reset) .outcome) × (now (t .exit) ≡ step (now (t .entry)) (on s n reset) .table) ⌝ }
+{
+    let i = (n.0 as usize) % MAX_ROWS;
+    let done = rows::reset(t.count, t.bridges[i], s, n);
+    t.bridges[i] = done.row;
+    done.number
+}
+
+#[no_mangle]
+pub extern "C" fn slipwattle_report(t: &mut Table, s: SessionNumber, n: BridgeNumber) -> Reported
+    requires { ⌜ Sound (now t) ⌝ }
+    ensures { λ r. ⌜ (outcome (r .number) (reported (r .holding)) [] ≡ step (now (t .entry)) (on s n report) .outcome)
+        × (now (t .exit) ≡ step (now (t .entry)) (on s n report) .table) ⌝ }
+{
+    let i = (n.0 as usize) % MAX_ROWS;
+    rows::report(t.count, t.bridges[i], s, n)
+}
+
+#[no_mangle]
+pub extern "C" fn slipwattle_address(
+    t: &mut Table,
+    s: SessionNumber,
+    n: BridgeNumber,
+    bus: u8,
+    device: u8,
+    function: u8,
+    offset: u16,
+    width: u8,
+) -> Addressed
+    requires { ⌜ Sound (now t) ⌝ }
+    ensures { λ r. ⌜ (outcome (r .number) (addressed (r .address)) [] ≡ step (now (t .entry)) (on s n (address bus device function offset width)) .outcome)
+        × (now (t .exit) ≡ step (now (t .entry)) (on s n (address bus device function offset width)) .table) ⌝ }
+{
+    let i = (n.0 as usize) % MAX_ROWS;
+    rows::address(
+        t.count,
+        t.bridges[i],
+        s,
+        n,
+        bus,
+        device,
+        function,
+        offset,
+        width,
+    )
+}
+
+// _OSC: the answer buffer is filled, or left as it was lent.
+#[no_mangle]
+pub extern "C" fn slipwattle_osc(
+    t: &mut Table,
+    s: SessionNumber,
+    n: BridgeNumber,
+    revision: u32,
+    count: u32,
+    uuid: &[u8],
+    caps: &[u8],
+    answer: &mut [u8],
+) -> u8
+    requires { ⌜ Sound (now t) ⌝ }
+    ensures { λ r. ⌜ (outcome r nothing (now (uuid .entry) ∷ now (caps .entry) ∷ now (answer .exit) ∷ [])
+        ≡ step (now (t .entry)) (on s n (osc revision count (now (uuid .entry)) (now (caps .entry)) (now (answer .entry)))) .outcome)
+        × (now (t .exit) ≡ step (now (t .entry)) (on s n (osc revision count (now (uuid .entry)) (now (caps .entry)) (now (answer .entry)))) .table) ⌝ }
+{
+    let i = (n.0 as usize) % MAX_ROWS;
+    let done = rows::osc(
+        t.count,
+        t.bridges[i],
+        s,
+        n,
+        revision,
+        count,
+        uuid,
+        caps,
+        answer,
+    );
+    t.bridges[i] = done.row;
+    done.number
+}
+
+#[no_mangle]
+pub extern "C" fn slipwattle_register_values<'a>(
+    t: &mut Table,
+    s: SessionNumber,
+    n: BridgeNumber,
+    slot: &'a [u8],
+    block: &'a [u8],
+    current: &[u32],
+) -> Values
+    requires { ⌜ Sound (now t) ⌝ }
+    ensures { λ r. ⌜ (outcome (r .number) (values (r .values)) (now (slot .entry) ∷ now (block .entry) ∷ now (current .entry) ∷ [])
+        ≡ step (now (t .entry)) (on s n (registerValues (now (slot .entry)) (now (block .entry)) (now (current .entry)))) .outcome)
+        × (now (t .exit) ≡ step (now (t .entry)) (on s n (registerValues (now (slot .entry)) (now (block .entry)) (now (current .entry)))) .table) ⌝ }
+{
+    let i = (n.0 as usize) % MAX_ROWS;
+    rows::register_values(t.count, t.bridges[i], s, n, slot, block, current)
+}
