@@ -1,13 +1,11 @@
 -- The slot's block decides exactly where it is not empty.
 -- Assumes nothing.
-use Prim.Native.Nat.{ℕ, _+_}
+use Prim.Native.Nat.{ℕ}
 use mathlib.Core.Path.{_≡_, refl}
 use mathlib.Core.List.{List, [], _∷_}
 use native.Mathlib.Omega.{arith}
 use lib.ListN.{length}
-use Rattle.rules.specs.Records.{deciding}
-use Rattle.rules.specs.declared.Found.{Found}
-use Rattle.hpx.specs.Answers.{decidingAt, partAt}
+use Rattle.rules.specs.Records.{deciding, decidingAt}
 
 pub block-decides : (slot block : List ℕ) → length slot ≡ 0 → block ≡ deciding slot block
 block-decides [] block e = refl
@@ -25,7 +23,3 @@ block-at (x ∷ slot) p q e = absurd (omega arith)
 pub slot-at : (slot : List ℕ) (p q : ℕ × ℕ) → (length slot ≡ 0 → ⊥) → p ≡ decidingAt slot p q
 slot-at [] p q n = absurd (n refl)
 slot-at (x ∷ slot) p q n = refl
-
--- a part lies where it starts
-pub part-at : (r q : Found) (p d : ℕ × ℕ) → r ≡ q → p ≡ d → (p .0, r .start + p .1) ≡ partAt q d
-part-at r q p d e f = cc

@@ -1,14 +1,13 @@
 -- What the record search gives lies inside the deciding block; a type 2 record has its eight pairs there.
 -- Assumes nothing.
-use Prim.Native.Nat.{ℕ, zero, suc, _+_, _-_, _%_, _≤_}
+use Prim.Native.Nat.{ℕ, zero, suc, _+_, _%_, _≤_}
 use mathlib.Core.Path.{_≡_, refl, sym, ap, ap₂, _∙_}
 use mathlib.Core.Bool.{Bool, true, false, not, cond, _&&_, _||_, true≢false}
 use mathlib.Core.List.{List, [], _∷_}
 use mathlib.Core.Option.{Option, none, some}
-use native.Mathlib.Nat.{add-sub-cancel-left}
 use native.Mathlib.Omega.{arith}
 use lib.Dec.{eqb, leb, ltb}
-use lib.ListN.{length, take, drop, replicate}
+use lib.ListN.{length, replicate}
 use borrow.Author.Tests.{eqb-true, le-ltb, not-false}
 use Rattle.rules.specs.Limits.{maxBlock}
 use Rattle.rules.specs.Lists.{every, first, isNone}
@@ -19,11 +18,11 @@ use Rattle.rules.specs.declared.Found.{Found}
 use Rattle.rules.proofs.Tests.{and-true, and-l, and-r, and-off, or-false}
 use Rattle.rules.proofs.Refusals.{clear}
 use Rattle.rules.proofs.Records.{record-part}
-use Rattle.hpx.specs.Answers.{part, valuesAt}
+use Rattle.hpx.specs.Answers.{valuesAt}
 
 -- ---- the part
 
-found-fits : (slot block : List ℕ) (type : ℕ)
+pub found-fits : (slot block : List ℕ) (type : ℕ)
     → findRecord slot block type .start + findRecord slot block type .size ≤ length (deciding slot block)
 found-fits slot block type = go (firstOf (recordRefusals slot block type)) (recordIn l type) (λ e. record-part slot block type e .0)
   where
@@ -35,9 +34,6 @@ found-fits slot block type = go (firstOf (recordRefusals slot block type)) (reco
     go zero none h = omega arith
     go zero (some f) h = h refl
     go (suc k) o h = omega arith
-
-pub part-is : (l m : List ℕ) (r q : Found) → l ≡ m → r ≡ q → take (r .start + r .size - r .start) (drop (r .start) l) ≡ part q m
-part-is l m r q d e = rw (add-sub-cancel-left (r .start) (r .size), d, e)
 
 -- ---- the number
 
@@ -140,9 +136,6 @@ found-values aer l current (suc k) o z n = absurd (omega arith)
 module _ (slot block : List ℕ) (type : ℕ) (r : Found) (e : r ≡ findRecord slot block type) where
   pub number-found : r .number ≡ firstOf (recordRefusals slot block type)
   number-found = ap (λ (q : Found). q .number) e ∙ number-is (firstOf (recordRefusals slot block type)) (recordIn (deciding slot block) type)
-
-  pub found-inside : (l : List ℕ) → l ≡ deciding slot block → r .start + r .size ≤ length l
-  found-inside l d = rw (e, d) (found-fits slot block type)
 
 module _ (slot block : List ℕ) (r : Found) (e : r ≡ findRecord slot block 2) (aer : Bool) (current : List ℕ) where
   pub values-refused : (r .number ≡ 0 → ⊥)

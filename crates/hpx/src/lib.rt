@@ -4,9 +4,9 @@ ghost use mathlib.Core.Path.{_≡_};
 ghost use mathlib.Core.Bool.{false};
 ghost use Prim.Native.Nat.{_+_, _<_, _≤_};
 ghost use lib.ListN.{length, getD};
-ghost use Rattle.rules.specs.Records.{fieldAt, deciding, recordIn, recordRefusals, findRecord, registersBad, newValues};
+ghost use Rattle.rules.specs.Records.{fieldAt, deciding, recordIn, recordRefusals, findRecord, decidingAt, registersBad, newValues};
 ghost use Rattle.rules.specs.Refusals.{firstOf};
-ghost use Rattle.hpx.specs.Answers.{decidingAt, part, partAt, keptOrNew, valuesAt};
+ghost use Rattle.hpx.specs.Answers.{keptOrNew, valuesAt};
 
 // If the slot's block is not empty it alone decides.
 pub fn deciding<'a>(slot: &'a [u8], block: &'a [u8]) -> &'a [u8]
@@ -24,20 +24,6 @@ pub fn search<'a>(slot: &'a [u8], block: &'a [u8], kind: u8) -> Found
     ensures { λ r. ⌜ r ≡ findRecord (now (slot .entry)) (now (block .entry)) kind ⌝ }
 {
     records::search_block(deciding(slot, block), kind)
-}
-
-// The record as a part of whichever block decided, header included; empty when refused.
-pub fn find_record<'a>(slot: &'a [u8], block: &'a [u8], kind: u8, number: &mut u8) -> &'a [u8]
-    ensures { λ _. ⌜ now (number .exit) ≡ findRecord (now (slot .entry)) (now (block .entry)) kind .number ⌝ }
-    ensures { λ r. ⌜ (now r ≡ part (findRecord (now (slot .entry)) (now (block .entry)) kind) (deciding (now (slot .entry)) (now (block .entry))))
-        × (r .ptr ≡ partAt (findRecord (now (slot .entry)) (now (block .entry)) kind) (decidingAt (now (slot .entry)) (slot .entry .ptr) (block .entry .ptr))) ⌝ }
-{
-    let found = search(slot, block, kind);
-    let b = deciding(slot, block);
-    let start = found.start;
-    let end = start + found.size;
-    *number = found.number;
-    &b[start..end]
 }
 
 // Refusal 10: not 8 numbers, or Device Control or Link Control above 65535.

@@ -5,7 +5,7 @@ use mathlib.Core.List.{List, [], _∷_}
 use mathlib.Core.Option.{Option, none, some}
 use lib.Bits.{bitAnd, bitOr}
 use lib.Dec.{eqb, leb, ltb}
-use lib.ListN.{length, getD}
+use lib.ListN.{length, getD, take, drop}
 use Rattle.rules.specs.Limits.{maxBlock}
 use Rattle.rules.specs.Lists.{every, pairwise, first, isNone}
 use Rattle.rules.specs.Numbers.{byte, word, dword}
@@ -124,6 +124,18 @@ foundBy (suc k) o = record { number = suc k; start = 0; size = 0 }
 -- the record search
 abbrev pub findRecord : (slot block : List ℕ) (type : ℕ) → Found
 findRecord slot block type = foundBy (firstOf (recordRefusals slot block type)) (recordIn (deciding slot block) type)
+
+-- the bytes of the part of a block
+abbrev pub part : Found → List ℕ → List ℕ
+part r l = take (r .size) (drop (r .start) l)
+
+-- "never a copy": where the deciding block lies, and where a part of it does, each a region of memory and an offset
+abbrev pub decidingAt : (slot : List ℕ) → (slotAt blockAt : ℕ × ℕ) → ℕ × ℕ
+decidingAt [] slotAt blockAt = blockAt
+decidingAt (x ∷ slot) slotAt blockAt = slotAt
+
+abbrev pub partAt : Found → ℕ × ℕ → ℕ × ℕ
+partAt r p = (p .0, r .start + p .1)
 
 -- ---- register values
 
