@@ -18,7 +18,7 @@ pub fn record_part<'a>(slot: &'a [u8], block: &'a [u8], at: rules::Found) -> &'a
 {
     let b = hpx::deciding(slot, block);
     let start = at.start;
-    let end = start + at.size;
+    let end = at.start + at.size;
     &b[start..end]
 }
 
