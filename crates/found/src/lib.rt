@@ -11,7 +11,7 @@ pub struct Found<'a> {
 }
 
 // The part of whichever block decided, at a place inside it.
-pub fn record_part<'a>(slot: &'a [u8], block: &'a [u8], at: rules::Found) -> &'a [u8]
+fn record_part<'a>(slot: &'a [u8], block: &'a [u8], at: rules::Found) -> &'a [u8]
     requires { ⌜ at .start + at .size ≤ length (deciding (now slot) (now block)) ⌝ }
     ensures { λ r. ⌜ (now r ≡ part at (deciding (now (slot .entry)) (now (block .entry))))
         × (r .ptr ≡ partAt at (decidingAt (now (slot .entry)) (slot .entry .ptr) (block .entry .ptr))) ⌝ }
