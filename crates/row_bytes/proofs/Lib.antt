@@ -1,0 +1,3 @@
+pub mod Decoding
+pub mod Starting
+pub mod ExampleLines
