@@ -2,15 +2,17 @@
 -- Assumes nothing.
 use Prim.Native.Nat.{ℕ, zero, suc, _+_, _%_, _≤_, _<_}
 use mathlib.Core.Path.{_≡_, refl, sym, ap, _∙_}
-use mathlib.Core.Bool.{false}
+use mathlib.Core.Bool.{true, false}
 use mathlib.Core.List.{List, [], _∷_, _++_}
 use native.Mathlib.Numerals.{add-one}
 use native.Mathlib.Omega.{arith}
+use lib.Dec.{eqb}
 use lib.ListN.{length, take, drop, getD, set}
 use lib.Seq.{drop-cons, take-suc, length-take-le}
 use borrow.Author.Tests.{eq-eqb, ne-eqb}
 use Rattle.rules.specs.Lists.{every, padded}
 use Rattle.rules.specs.declared.BridgeRow.{BridgeRow}
+use Rattle.rules.proofs.Tests.{and-off}
 use Rattle.start.proofs.Listing.{padded-snoc}
 use Rattle.row_bytes.specs.RowBytes.{eachFrom, kindAt, kindKnown, kindsOf, readable, rowAt, rowCount, rowsOf}
 
@@ -73,11 +75,15 @@ module _ (b : List ℕ) where
   unfolding rowsOf
   rows-stored i left d m room = each-stored (rowAt b) (rowCount b) i left d m room
 
-  -- a part of a row is left over, or the kinds decide
+  -- a part of a row is left over, a kind is not known, or whole rows of known kinds
   pub left-over : (length b % 10 ≡ 0 → ⊥) → readable b ≡ false
   unfolding readable
   left-over n = rw (ne-eqb (length b % 10) 0 n)
 
-  pub whole-rows : length b % 10 ≡ 0 → readable b ≡ every kindKnown (kindsOf b)
+  pub unknown-kind : every kindKnown (kindsOf b) ≡ false → readable b ≡ false
   unfolding readable
-  whole-rows e = rw (eq-eqb (length b % 10) 0 e)
+  unknown-kind e = rw e (and-off (eqb (length b % 10) 0))
+
+  pub whole-rows : length b % 10 ≡ 0 → every kindKnown (kindsOf b) ≡ true → readable b ≡ true
+  unfolding readable
+  whole-rows e f = rw (eq-eqb (length b % 10) 0 e, f)

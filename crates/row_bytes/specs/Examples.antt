@@ -1,35 +1,55 @@
--- Example lines of rows as bytes, as BenchSheet gives those of document 01: each is an equation that computes.
+-- Example lines: rows as bytes, and starts of them.
 use Prim.Native.Nat.{ℕ}
-use mathlib.Core.Path.{_≡_}
 use mathlib.Core.Bool.{true, false}
 use mathlib.Core.List.{List, [], _∷_, _++_}
 use lib.ListN.{replicate}
+use Rattle.rules.specs.BenchSheet.{Line, _gives_, AllHold}
+use Rattle.rules.specs.BenchRuns.{oneEntry, row, lesson}
+use Rattle.rules.specs.Start.{startTable, tableOf}
 use Rattle.rules.specs.declared.BridgeKind.the-variants.{Express, Conventional}
 use Rattle.rules.specs.declared.BridgeRow.{BridgeRow}
-use Rattle.row_bytes.specs.RowBytes.{rowsOf, readable}
+use Rattle.row_bytes.specs.RowBytes.{rowsOf, readable, bytesNumber, bytesTable}
 
 -- owner 3, segment 0x0201, buses 4 to 5, conventional, permitted 0x44332211
 abbrev pub tenBytes : List ℕ
 tenBytes = 3 ∷ 0x01 ∷ 0x02 ∷ 4 ∷ 5 ∷ 1 ∷ 0x11 ∷ 0x22 ∷ 0x33 ∷ 0x44 ∷ []
 
--- its row
 abbrev pub itsRow : BridgeRow
 itsRow = record { owner = record { 0 = 3 }; segment = 0x0201; «first_bus» = 4; «last_bus» = 5; kind = Conventional; permitted = 0x44332211 }
 
--- ten zeros, and their row
-abbrev pub zeros : List ℕ
-zeros = replicate 10 0
+-- zeros but for the kind byte
+abbrev pub ofKind : ℕ → List ℕ
+ofKind k = 0 ∷ 0 ∷ 0 ∷ 0 ∷ 0 ∷ k ∷ 0 ∷ 0 ∷ 0 ∷ 0 ∷ []
 
-abbrev pub zeroRow : BridgeRow
-zeroRow = record { owner = record { 0 = 0 }; segment = 0; «first_bus» = 0; «last_bus» = 0; kind = Express; permitted = 0 }
+-- the rows of `lesson`
+abbrev pub lessonBytes : List ℕ
+lessonBytes = 3 ∷ 0 ∷ 0 ∷ 0 ∷ 15 ∷ 0 ∷ 0x1F ∷ 0 ∷ 0 ∷ 0 ∷ 5 ∷ 0 ∷ 0 ∷ 128 ∷ 159 ∷ 0 ∷ 0x1F ∷ 0 ∷ 0 ∷ 0 ∷ []
+
+abbrev pub decoded : List Line
+decoded =
+    (rowsOf tenBytes gives itsRow ∷ [])
+    ∷ (rowsOf (tenBytes ++ ofKind 0) gives itsRow ∷ row Express 0 0 0 0 ∷ [])
+    ∷ (readable [] gives true)
+    ∷ (readable (tenBytes ++ ofKind 0) gives true)
+    -- 9 and 21 bytes; kind 2, in the first row and in the second
+    ∷ (readable (replicate 9 0) gives false)
+    ∷ (readable (tenBytes ++ ofKind 0 ++ 0 ∷ []) gives false)
+    ∷ (readable (ofKind 2) gives false)
+    ∷ (readable (tenBytes ++ ofKind 2) gives false)
+    ∷ []
+
+abbrev pub started : List Line
+started =
+    (bytesNumber oneEntry lessonBytes gives 0)
+    ∷ (bytesTable oneEntry lessonBytes gives startTable lesson)
+    -- no rows; a byte too many; kind 2; the same with an MCFG table that is not sound; readable, of a segment that has no entry
+    ∷ (bytesNumber oneEntry [] gives 0)
+    ∷ (bytesNumber oneEntry (lessonBytes ++ 0 ∷ []) gives 7)
+    ∷ (bytesTable oneEntry (lessonBytes ++ 0 ∷ []) gives tableOf [])
+    ∷ (bytesNumber oneEntry (lessonBytes ++ ofKind 2) gives 7)
+    ∷ (bytesNumber [] (lessonBytes ++ 0 ∷ []) gives 6)
+    ∷ (bytesNumber oneEntry tenBytes gives 7)
+    ∷ []
 
 abbrev pub RowExamples : Type 0
-RowExamples =
-    (rowsOf tenBytes ≡ itsRow ∷ [])
-    × (rowsOf (tenBytes ++ zeros) ≡ itsRow ∷ zeroRow ∷ [])  -- in order
-    × (readable [] ≡ true)  -- no rows
-    × (readable (tenBytes ++ zeros) ≡ true)
-    × (readable (replicate 9 0) ≡ false)  -- no multiple of ten
-    × (readable (zeros ++ tenBytes ++ 0 ∷ []) ≡ false)
-    × (readable (0 ∷ 0 ∷ 0 ∷ 0 ∷ 0 ∷ 2 ∷ 0 ∷ 0 ∷ 0 ∷ 0 ∷ []) ≡ false)  -- kind 2
-    × (readable (tenBytes ++ 0 ∷ 0 ∷ 0 ∷ 0 ∷ 0 ∷ 2 ∷ 0 ∷ 0 ∷ 0 ∷ 0 ∷ []) ≡ false)
+RowExamples = AllHold decoded × AllHold started

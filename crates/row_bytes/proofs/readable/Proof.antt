@@ -9,7 +9,7 @@ use borrow.Author.Tests.{le-leb, lt-leb}
 use Rattle.rules.specs.Lists.{every}
 use Rattle.mcfg.proofs.Heads.{every-fails, every-goes}
 use Rattle.row_bytes.specs.RowBytes.{kindAt, kindsOf, kindKnown}
-use Rattle.row_bytes.proofs.Decoding.{kinds-length, kinds-next, left-over, whole-rows}
+use Rattle.row_bytes.proofs.Decoding.{kinds-length, kinds-next, left-over, unknown-kind, whole-rows}
 use Rattle.row_bytes.proofs.readable.Statement.{statement}
 use Rattle.row_bytes.proofs.readable.Tie as tie
 
@@ -26,7 +26,7 @@ next : (c : tie.In-loop Inv-loop μ-loop)
 next c = kinds-next (now (c .before .before .before .args .bytes)) (c .before .loop .i) (c .loop-test .taken)
 
 returns : tie.Need-returns Inv-loop μ-loop
-returns c = sym (left-over (now (c .before .args .bytes)) (c .if1 .taken))
+returns c = sym (left-over (now (c .before .args .bytes)) (λ e. c .if1 .taken (omega arith)))
 
 loop-holds : tie.Need-loop-holds Inv-loop μ-loop
 loop-holds c = refl
@@ -45,9 +45,8 @@ returns-2 c =
     let l = c .before .before .before in
     let b = now (l .before .before .args .bytes) in
     sym
-    (whole-rows b (l .before .if1 .left)
-    ∙ sym (l .loop .inv)
-    ∙ every-fails (next (c .before .before)) kindKnown (lt-leb (kindAt b (l .loop .i)) 1 (c .if2 .taken)))
+    (unknown-kind b
+    (sym (l .loop .inv) ∙ every-fails (next (c .before .before)) kindKnown (lt-leb (kindAt b (l .loop .i)) 1 (omega arith))))
 
 add-i : tie.Need-add-i Inv-loop μ-loop
 add-i c = omega arith
@@ -59,16 +58,15 @@ loop-again : tie.Need-loop-again Inv-loop μ-loop
 loop-again c =
     let l = c .before .before .before in
     let b = now (l .before .before .args .bytes) in
-    every-goes (next (c .before .before)) kindKnown (le-leb (kindAt b (l .loop .i)) 1 (c .if2 .left)) ∙ l .loop .inv
+    every-goes (next (c .before .before)) kindKnown (le-leb (kindAt b (l .loop .i)) 1 (omega arith)) ∙ l .loop .inv
 
 returns-3 : tie.Need-returns-3 Inv-loop μ-loop
 returns-3 c =
     let l = c .before in
     let b = now (l .before .before .args .bytes) in
     sym
-    (whole-rows b (l .before .if1 .left)
-    ∙ sym (l .loop .inv)
-    ∙ ap (every kindKnown) (drop-of-length-le (kindsOf b) {i = l .loop .i} (rw (kinds-length b) (c .loop-test .left))))
+    (whole-rows b (omega arith)
+    (sym (l .loop .inv) ∙ ap (every kindKnown) (drop-of-length-le (kindsOf b) {i = l .loop .i} (rw (kinds-length b) (c .loop-test .left)))))
 
 pub readable-spec : {M : Type 1} → statement M
 readable-spec =
