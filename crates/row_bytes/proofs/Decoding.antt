@@ -46,7 +46,11 @@ module _ {A : Type 0} (f : ℕ → A) where
 
     -- one row more, stored in an array
     pub each-stored : (d : A) (m : ℕ) → i < m → set (padded d m (take i (eachFrom f n 0))) i (f i) ≡ padded d m (take (i + 1) (eachFrom f n 0))
-    each-stored d m room = sym (ap (padded d m) more ∙ padded-snoc d m (take i (eachFrom f n 0)) (f i) (rw front room) ∙ ap (λ (k : ℕ). set (padded d m (take i (eachFrom f n 0))) k (f i)) front)
+    each-stored d m room =
+        sym
+        (ap (padded d m) more
+        ∙ padded-snoc d m (take i (eachFrom f n 0)) (f i) (rw front room)
+        ∙ ap (λ (k : ℕ). set (padded d m (take i (eachFrom f n 0))) k (f i)) front)
       where
         front : length (take i (eachFrom f n 0)) ≡ i
         front = length-take-le i (eachFrom f n 0) (omega (arith, inside))

@@ -29,12 +29,11 @@ module _ (mcfg b : List ℕ) where
   broken : readable b && rowsSound (entries mcfg) (rowsOf b) ≡ false
       → (firstOf ((6 if not (mcfgSound mcfg)) ∷ (7 if true) ∷ []) ≡ bytesNumber mcfg b) × (tableOf [] ≡ bytesTable mcfg b)
   unfolding bytesNumber bytesTable
-  broken e = rw e (go (mcfgSound mcfg))
+  broken e = rw e (refl, go (mcfgSound mcfg))
     where
-      go : (s : Bool) → (firstOf ((6 if not s) ∷ (7 if true) ∷ []) ≡ firstOf ((6 if not s) ∷ (7 if true) ∷ []))
-          × (tableOf [] ≡ startBy (firstOf ((6 if not s) ∷ (7 if true) ∷ [])) (lentBytes mcfg b))
-      go true = (refl, refl)
-      go false = (refl, refl)
+      go : (s : Bool) → tableOf [] ≡ startBy (firstOf ((6 if not s) ∷ (7 if true) ∷ [])) (lentBytes mcfg b)
+      go true = refl
+      go false = refl
 
   -- more rows than a table holds, or not readable
   pub not-listable : leb (rowCount b) maxRows && readable b ≡ false
