@@ -7,9 +7,12 @@ use rules::BridgeNumber;
 use rules::MAX_ROWS;
 use rules::SessionNumber;
 use rules::Table;
+use start::Started;
 ghost use mathlib.Core.Path.{_≡_};
 ghost use mathlib.Core.List.{[], _∷_};
 ghost use Rattle.rules.specs.Start.{Sound};
+ghost use Rattle.row_bytes.specs.RowBytes.{bytesNumber, bytesTable};
+ghost use Rattle.slipwattle.specs.Boundary.{recordAt};
 ghost use Rattle.rules.specs.Calls.{osc, reset, report, address, registerValues, on, nothing, reported, addressed, values, outcome, step};
 
 #[no_mangle]
@@ -111,4 +114,34 @@ pub extern "C" fn slipwattle_register_values<'a>(
 {
     let i = (n.0 as usize) % MAX_ROWS;
     rows::register_values(t.count, t.bridges[i], s, n, slot, block, current)
+}
+
+// The rows cross as bytes, ten for each, since a row holds an enum.
+#[no_mangle]
+pub extern "C" fn slipwattle_start(mcfg: &[u8], rows: &[u8]) -> Started
+    ensures { λ r. ⌜ (r .number ≡ bytesNumber (now (mcfg .entry)) (now (rows .entry))) × (r .table ≡ bytesTable (now (mcfg .entry)) (now (rows .entry))) ⌝ }
+{
+    row_bytes::start_bytes(mcfg, rows)
+}
+
+// A found record as it crosses: its number, whether it lies in the slot's block, where it starts there and its length, header included.
+#[repr(C)]
+pub struct RecordAt {
+    pub number: u8,
+    pub in_slot: bool,
+    pub start: usize,
+    pub size: usize,
+}
+
+#[no_mangle]
+pub extern "C" fn slipwattle_find_record<'a>(slot: &'a [u8], block: &'a [u8], kind: u8) -> RecordAt
+    ensures { λ r. ⌜ r ≡ recordAt (now (slot .entry)) (now (block .entry)) kind ⌝ }
+{
+    let found = hpx::search(slot, block, kind);
+    RecordAt {
+        number: found.number,
+        in_slot: (found.number == 0) & (slot.len() != 0),
+        start: found.start,
+        size: found.size,
+    }
 }
