@@ -28,10 +28,21 @@ use Rattle.start.proofs.Listing.{every-snoc, pairwise-snoc, padded-snoc
 
 -- ---- one row more
 
--- 0 is the number of a row that is admitted
-admitted : (q : Bool) → cond {A = ℕ} q 0 7 ≡ 0 → q ≡ true
-admitted true e = refl
-admitted false e = absurd (omega arith)
+-- 0 is the number of a row that is admitted, and of no other
+module _ (q : Bool) (n : ℕ) (is : n ≡ cond q 0 7) where
+  pub admitted : n ≡ 0 → q ≡ true
+  admitted z = go q is
+    where
+      go : (p : Bool) → n ≡ cond {A = ℕ} p 0 7 → p ≡ true
+      go true e = refl
+      go false e = absurd (omega arith)
+
+  pub rejected : (n ≡ 0 → ⊥) → q ≡ false
+  rejected z = go q is
+    where
+      go : (p : Bool) → n ≡ cond {A = ℕ} p 0 7 → p ≡ false
+      go true e = absurd (z e)
+      go false e = refl
 
 module _ (es : List Entry) where
   -- each row is sound, and each pair apart
@@ -94,34 +105,21 @@ module _ (es : List Entry) where
     more : rowsGood (take (i + 1) rows) ≡ admissible es t here
     more = rw (next, one-more (take i rows) here (rw front (omega (arith, listed .upto))), listed .good, listed .table-is)
 
-    -- the number and the bridge that `admit` gives
-    abbrev number : ℕ
-    number = cond (admissible es t here) 0 7
-
-    abbrev bridge : Bridge
-    bridge = cond (admissible es t here) (bridgeOf es here) noBridge
-
     -- the row is admitted
-    pub listed-more : (n : ℕ) (b : Bridge) → n ≡ number → b ≡ bridge → n ≡ 0 → Listed rows (i + 1) (withNext t i b)
-    listed-more n b e f z = record { upto = omega arith; table-is = stored; good = more ∙ a }
+    pub listed-more : admissible es t here ≡ true → Listed rows (i + 1) (withNext t i (bridgeOf es here))
+    listed-more a = record { upto = omega arith; table-is = stored; good = more ∙ a }
       where
-        a : admissible es t here ≡ true
-        a = admitted (admissible es t here) (sym e ∙ z)
-
         room : length (take i rows) < maxRows
         room = rw front (omega arith)
 
-        stored : withNext t i b ≡ tableOfRows (take (i + 1) rows)
-        stored = rw (next, f, a, listed .table-is) (rw front at (table-more (take i rows) here room))
+        stored : withNext t i (bridgeOf es here) ≡ tableOfRows (take (i + 1) rows)
+        stored = rw (next, listed .table-is) (rw front at (table-more (take i rows) here room))
 
     -- it is not: the whole list breaks a rule
-    pub listed-stop : (n : ℕ) → n ≡ number → (n ≡ 0 → ⊥) → (n ≡ 7) × (rowsSound es rows ≡ false)
+    pub listed-stop : admissible es t here ≡ false → rowsSound es rows ≡ false
     unfolding rowsSound
-    listed-stop n e z = (e ∙ ap (λ (q : Bool). cond {A = ℕ} q 0 7) a, fails (leb (length rows) maxRows && every (rowSound es) rows && pairwise rowsApart rows) no)
+    listed-stop a = fails (leb (length rows) maxRows && every (rowSound es) rows && pairwise rowsApart rows) no
       where
-        a : admissible es t here ≡ false
-        a = fails (admissible es t here) (λ q. z (e ∙ ap (λ (q : Bool). cond {A = ℕ} q 0 7) q))
-
         no : leb (length rows) maxRows && every (rowSound es) rows && pairwise rowsApart rows ≡ true → ⊥
         no s =
             let sound : every (rowSound es) rows ≡ true = search (and-l, and-r) in

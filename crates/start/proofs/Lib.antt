@@ -1,2 +1,3 @@
 pub mod Listing
 pub mod Admission
+pub mod Walk

@@ -1,6 +1,6 @@
 -- One row of the starting list against the bridges of the rows before it.
 use Prim.Native.Nat.{ℕ, _+_}
-use mathlib.Core.Bool.{Bool, not, _&&_, _||_}
+use mathlib.Core.Bool.{Bool, not, cond, _&&_, _||_}
 use mathlib.Core.List.{List, [], _∷_}
 use lib.Dec.{eqb, leb}
 use lib.ListN.{set}
@@ -11,12 +11,13 @@ use Rattle.rules.specs.Lists.{every}
 use Rattle.rules.specs.Refusals.{_if_, firstOf}
 use Rattle.rules.specs.Mcfg.{busesApart, mcfgSound}
 use Rattle.rules.specs.Tables.{bridgesOf}
-use Rattle.rules.specs.Start.{permissible, rowSound}
+use Rattle.rules.specs.Start.{permissible, rowSound, bridgeOf, tableOf}
 use Rattle.rules.specs.declared.Bridge.{Bridge}
 use Rattle.rules.specs.declared.BridgeKind.the-variants.{Express}
 use Rattle.rules.specs.declared.BridgeRow.{BridgeRow}
 use Rattle.rules.specs.declared.Entry.{Entry}
 use Rattle.rules.specs.declared.Table.{Table}
+use Rattle.start.specs.declared.Started.{Started}
 
 -- what stands past the end of a list of rows
 abbrev pub noRow : BridgeRow
@@ -43,3 +44,19 @@ withNext t i b = record { bridges = set (t .bridges) i b; count = i + 1 }
 -- what start refuses before it looks at a row: 6, the MCFG table; 7, more rows than a table holds
 abbrev pub firstNumber : List ℕ → ℕ → ℕ
 firstNumber mcfg count = firstOf ((6 if not (mcfgSound mcfg)) ∷ (7 if not (leb count maxRows)) ∷ [])
+
+-- start before its first row: `firstNumber`, and no bridges
+unfoldable pub begun : List ℕ → ℕ → Started
+begun mcfg count = record { number = firstNumber mcfg count; table = tableOf [] }
+
+-- how many of its rows start walks: all, or none where it has refused
+unfoldable pub rowsToRead : Started → ℕ → ℕ
+rowsToRead s count = cond (eqb (s .number) 0) count 0
+
+-- the row in place i of the table, or 7 and no bridges
+abbrev pub judged : List Entry → Table → ℕ → BridgeRow → Started
+judged es t i r = cond (admissible es t r) (record { number = 0; table = withNext t i (bridgeOf es r) }) (record { number = 7; table = tableOf [] })
+
+-- start after one row more: a refusal stays
+unfoldable pub nextStarted : List Entry → Started → ℕ → BridgeRow → Started
+nextStarted es s i r = cond (eqb (s .number) 0) (judged es (s .table) i r) s

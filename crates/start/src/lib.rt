@@ -16,7 +16,7 @@ ghost use Rattle.rules.specs.Lists.{every};
 ghost use Rattle.rules.specs.Mcfg.{entries};
 ghost use Rattle.rules.specs.Tables.{noBridge, bridgesOf};
 ghost use Rattle.rules.specs.Start.{permissible, bridgeOf, tableOf, startNumber, startTable};
-ghost use Rattle.start.specs.Admission.{rowSoundIf, bridgeApart, admissible, firstNumber, withNext};
+ghost use Rattle.start.specs.Admission.{rowSoundIf, bridgeApart, admissible, firstNumber, withNext, begun, rowsToRead, nextStarted};
 
 // The rows of a list by value: one more than a table holds, so that a list that is too long can be handed in.
 pub const LIST_ROWS: usize = rules::MAX_ROWS + 1;
@@ -162,6 +162,48 @@ pub fn with_next(t: Table, i: usize, b: Bridge) -> Table
 pub struct Started {
     pub number: u8,
     pub table: Table,
+}
+
+// Start before its first row.
+pub fn begin(mcfg: &[u8], count: usize) -> Started
+    ensures { λ r. ⌜ r ≡ begun (now (mcfg .entry)) count ⌝ }
+{
+    Started {
+        number: first_number(mcfg, count),
+        table: no_bridges(),
+    }
+}
+
+// How many of `count` rows are to be walked: none where start has refused.
+pub fn rows_to_read(s: Started, count: usize) -> usize
+    ensures { λ r. ⌜ r ≡ rowsToRead s count ⌝ }
+{
+    if s.number != 0 {
+        return 0;
+    }
+    count
+}
+
+// Start after row `i`.
+pub fn next(mcfg: &[u8], s: Started, i: usize, row: BridgeRow) -> Started
+    requires { ⌜ i < maxRows ⌝ }
+    ensures { λ r. ⌜ r ≡ nextStarted (entries (now (mcfg .entry))) s i row ⌝ }
+{
+    if s.number != 0 {
+        return s;
+    }
+    let t = s.table;
+    let a = admit(mcfg, t, row);
+    if a.number != 0 {
+        return Started {
+            number: 7,
+            table: no_bridges(),
+        };
+    }
+    Started {
+        number: 0,
+        table: with_next(t, i, a.bridge),
+    }
 }
 
 // The table of the first `count` rows, or a refusal and no bridges.

@@ -1,8 +1,8 @@
 -- `start::start` meets its contract: the invariant: the first i rows are sound, apart and in the table. The measure is the rows left.
-use Prim.Native.Nat.{_+_, _-_, _≤_, _<_}
+use Prim.Native.Nat.{ℕ, _+_, _-_, _≤_, _<_}
 use mathlib.Core.List.{List}
 use mathlib.Core.Bool.{cond, Bool, true}
-use mathlib.Core.Path.{_≡_}
+use mathlib.Core.Path.{_≡_, ap, _∙_}
 use native.Mathlib.Omega.{arith}
 use denote.Ref.{now}
 use lib.ListN.{length, take, getD, length-take}
@@ -15,7 +15,7 @@ use Rattle.rules.specs.declared.BridgeRow.{BridgeRow}
 use Rattle.rules.specs.Limits.{maxRows}
 use Rattle.rules.specs.Mcfg.{entries, mcfgSound}
 use Rattle.start.specs.Admission.{noRow, admissible}
-use Rattle.start.proofs.Admission.{Listed, listed-none, listed-more, listed-stop, listed-all, rows-refused, all-admitted, first-passes, first-refuses}
+use Rattle.start.proofs.Admission.{admitted, rejected, Listed, listed-none, listed-more, listed-stop, listed-all, rows-refused, all-admitted, first-passes, first-refuses}
 use Rattle.start.proofs.start.Statement.{statement}
 use Rattle.start.proofs.start.Tie as tie
 
@@ -105,8 +105,9 @@ returns-2 c =
     let a = c .before .before in
     let e = a .before .before .before .before in
     let l = a .before .before .before .loop in
-    let stop = listed-stop (es a) (lent (entry a) .rows) (l .i) (l .t) noRow (l .inv) (left a) (few e) (a .admit .result .number) (judged a .0) (c .before .if2 .taken) in
-    rw (stop .0, c .no-bridges2 .ensures) (rows-refused (lent (entry a)) (passed e .0) (stop .1))
+    let no = rejected (yes a) (a .admit .result .number) (judged a .0) (c .before .if2 .taken) in
+    let seven : a .admit .result .number ≡ 7 = judged a .0 ∙ ap (λ (q : Bool). cond {A = ℕ} q 0 7) no in
+    rw (seven, c .no-bridges2 .ensures) (rows-refused (lent (entry a)) (passed e .0) (listed-stop (es a) (lent (entry a) .rows) (l .i) (l .t) noRow (l .inv) (left a) (few e) no))
 
 with-next-requires : tie.Need-with-next-requires Inv-loop μ-loop
 with-next-requires c κs = omega (arith, passed (c .before .before .before .before .before) .1)
@@ -123,9 +124,8 @@ loop-again c =
     let a = c .before .before in
     let e = a .before .before .before .before in
     let l = a .before .before .before .loop in
-    rw (c .with-next .ensures)
-    (listed-more (es a) (lent (entry a) .rows) (l .i) (l .t) noRow (l .inv) (left a) (few e) (a .admit .result .number) (a .admit .result .bridge) (judged a .0) (judged a .1)
-    (c .before .if2 .left))
+    let ok = admitted (yes a) (a .admit .result .number) (judged a .0) (c .before .if2 .left) in
+    rw (c .with-next .ensures, judged a .1, ok) (listed-more (es a) (lent (entry a) .rows) (l .i) (l .t) noRow (l .inv) (left a) (few e) ok)
 
 returns-3 : tie.Need-returns-3 Inv-loop μ-loop
 returns-3 c =
