@@ -1,0 +1,20 @@
+// Start over a lent MCFG table and a lent list of rows.
+use rules::BridgeRow;
+use start::Started;
+ghost use mathlib.Core.Path.{_≡_};
+ghost use Rattle.rules.specs.Start.{startNumber, startTable};
+
+// The table of the rows, of any number, or a refusal and no bridges.
+pub fn start(mcfg: &[u8], rows: &[BridgeRow]) -> Started
+    ensures { λ r. ⌜ (r .number ≡ startNumber (record { mcfg = now (mcfg .entry); rows = now (rows .entry) }))
+        × (r .table ≡ startTable (record { mcfg = now (mcfg .entry); rows = now (rows .entry) })) ⌝ }
+{
+    let mut s = start::begin(mcfg, rows.len());
+    let n = start::rows_to_read(s, rows.len());
+    let mut i = 0;
+    while i < n {
+        s = start::next(mcfg, s, i, rows[i]);
+        i += 1;
+    }
+    s
+}
