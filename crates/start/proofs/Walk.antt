@@ -3,17 +3,17 @@
 use Prim.Native.Nat.{ℕ, _+_, _≤_, _<_}
 use mathlib.Core.Path.{_≡_, refl, sym}
 use mathlib.Core.Bool.{Bool, true, false}
-use mathlib.Core.List.{List, []}
+use mathlib.Core.List.{List}
 use native.Mathlib.Omega.{arith}
 use lib.Dec.{eqb}
 use lib.ListN.{length, getD}
 use borrow.Author.Tests.{eqb-true, eqb-false, eq-eqb, ne-eqb}
 use Rattle.rules.specs.Limits.{maxRows}
 use Rattle.rules.specs.Mcfg.{entries, mcfgSound}
-use Rattle.rules.specs.Start.{StartInput, bridgeOf, tableOf, startNumber, startTable}
+use Rattle.rules.specs.Start.{StartInput, bridgeOf, startNumber, startTable}
 use Rattle.rules.specs.declared.BridgeRow.{BridgeRow}
 use Rattle.rules.specs.declared.Entry.{Entry}
-use Rattle.start.specs.Admission.{noRow, admissible, withNext, begun, rowsToRead, nextStarted}
+use Rattle.start.specs.Admission.{noRow, admissible, withNext, withoutBridges, begun, rowsToRead, nextStarted}
 use Rattle.start.specs.declared.Started.{Started}
 use Rattle.start.proofs.Admission.{Listed, listed-none, listed-more, listed-stop, listed-all, rows-refused, all-admitted, first-passes, first-refuses}
 
@@ -26,7 +26,7 @@ module _ (es : List Entry) (s : Started) (i : ℕ) (r : BridgeRow) where
   next-stays z = rw (ne-eqb (s .number) 0 z)
 
   -- a row is refused
-  pub next-refuses : s .number ≡ 0 → admissible es (s .table) r ≡ false → record { number = 7; table = tableOf [] } ≡ nextStarted es s i r
+  pub next-refuses : s .number ≡ 0 → admissible es (s .table) r ≡ false → withoutBridges 7 ≡ nextStarted es s i r
   unfolding nextStarted
   next-refuses z a = rw (eq-eqb (s .number) 0 z, a)
 

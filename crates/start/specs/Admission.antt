@@ -45,17 +45,21 @@ withNext t i b = record { bridges = set (t .bridges) i b; count = i + 1 }
 abbrev pub firstNumber : List ℕ → ℕ → ℕ
 firstNumber mcfg count = firstOf ((6 if not (mcfgSound mcfg)) ∷ (7 if not (leb count maxRows)) ∷ [])
 
--- start before its first row: `firstNumber`, and no bridges
+-- a start with no bridges: "a refused start gives a table with no bridges"
+abbrev pub withoutBridges : ℕ → Started
+withoutBridges n = record { number = n; table = tableOf [] }
+
+-- start before its first row
 unfoldable pub begun : List ℕ → ℕ → Started
-begun mcfg count = record { number = firstNumber mcfg count; table = tableOf [] }
+begun mcfg count = withoutBridges (firstNumber mcfg count)
 
 -- how many of its rows start walks: all, or none where it has refused
 unfoldable pub rowsToRead : Started → ℕ → ℕ
 rowsToRead s count = cond (eqb (s .number) 0) count 0
 
--- the row in place i of the table, or 7 and no bridges
+-- the row in place i of the table, or 7
 abbrev pub judged : List Entry → Table → ℕ → BridgeRow → Started
-judged es t i r = cond (admissible es t r) (record { number = 0; table = withNext t i (bridgeOf es r) }) (record { number = 7; table = tableOf [] })
+judged es t i r = cond (admissible es t r) (record { number = 0; table = withNext t i (bridgeOf es r) }) (withoutBridges 7)
 
 -- start after one row more: a refusal stays
 unfoldable pub nextStarted : List Entry → Started → ℕ → BridgeRow → Started

@@ -10,13 +10,12 @@ ghost use mathlib.Core.Path.{_≡_};
 ghost use mathlib.Core.Bool.{cond};
 ghost use mathlib.Core.List.{[]};
 ghost use Prim.Native.Nat.{_<_};
-ghost use lib.ListN.{take};
 ghost use Rattle.rules.specs.Limits.{maxRows};
 ghost use Rattle.rules.specs.Lists.{every};
 ghost use Rattle.rules.specs.Mcfg.{entries};
 ghost use Rattle.rules.specs.Tables.{noBridge, bridgesOf};
-ghost use Rattle.rules.specs.Start.{permissible, bridgeOf, tableOf, startNumber, startTable};
-ghost use Rattle.start.specs.Admission.{rowSoundIf, bridgeApart, admissible, firstNumber, withNext, begun, rowsToRead, nextStarted};
+ghost use Rattle.rules.specs.Start.{permissible, bridgeOf, tableOf};
+ghost use Rattle.start.specs.Admission.{rowSoundIf, bridgeApart, admissible, firstNumber, withNext, withoutBridges, begun, rowsToRead, nextStarted};
 
 // The rows of a list by value: one more than a table holds, so that a list that is too long can be handed in.
 pub const LIST_ROWS: usize = rules::MAX_ROWS + 1;
@@ -164,24 +163,29 @@ pub struct Started {
     pub table: Table,
 }
 
+// A start with no bridges.
+fn without_bridges(number: u8) -> Started
+    ensures { λ r. ⌜ r ≡ withoutBridges number ⌝ }
+{
+    let table = no_bridges();
+    Started { number, table }
+}
+
 // Start before its first row.
 pub fn begin(mcfg: &[u8], count: usize) -> Started
     ensures { λ r. ⌜ r ≡ begun (now (mcfg .entry)) count ⌝ }
 {
-    Started {
-        number: first_number(mcfg, count),
-        table: no_bridges(),
-    }
+    without_bridges(first_number(mcfg, count))
 }
 
 // How many of `count` rows are to be walked: none where start has refused.
 pub fn rows_to_read(s: Started, count: usize) -> usize
     ensures { λ r. ⌜ r ≡ rowsToRead s count ⌝ }
 {
-    if s.number != 0 {
-        return 0;
+    if s.number == 0 {
+        return count;
     }
-    count
+    0
 }
 
 // Start after row `i`.
@@ -195,46 +199,8 @@ pub fn next(mcfg: &[u8], s: Started, i: usize, row: BridgeRow) -> Started
     let t = s.table;
     let a = admit(mcfg, t, row);
     if a.number != 0 {
-        return Started {
-            number: 7,
-            table: no_bridges(),
-        };
+        return without_bridges(7);
     }
-    Started {
-        number: 0,
-        table: with_next(t, i, a.bridge),
-    }
-}
-
-// The table of the first `count` rows, or a refusal and no bridges.
-pub fn start(mcfg: &[u8], rows: [BridgeRow; LIST_ROWS], count: usize) -> Started
-    ensures { λ r. ⌜ (r .number ≡ startNumber (record { mcfg = now (mcfg .entry); rows = take count rows }))
-        × (r .table ≡ startTable (record { mcfg = now (mcfg .entry); rows = take count rows })) ⌝ }
-{
-    let n = first_number(mcfg, count);
-    let mut t = no_bridges();
-    if n != 0 {
-        return Started {
-            number: n,
-            table: t,
-        };
-    }
-    let mut i = 0;
-    while i < count {
-        let row = rows[i];
-        let a = admit(mcfg, t, row);
-        let number = a.number;
-        if number != 0 {
-            return Started {
-                number,
-                table: no_bridges(),
-            };
-        }
-        t = with_next(t, i, a.bridge);
-        i += 1;
-    }
-    Started {
-        number: 0,
-        table: t,
-    }
+    let table = with_next(t, i, a.bridge);
+    Started { number: 0, table }
 }

@@ -49,7 +49,6 @@ use denote.Triple.Table.{entered, cited}
 use denote.Triple.Walked.{says, Stays, stay-none, stay-none-slice, walkOf, AllGo, goes-none, goes-none-slice, Walks, ends-at, walked, walk-meets}
 use denote.Exit.{yes}
 use Rattle.rules.specs.Limits.{maxRows}
-use Rattle.rules.specs.Start.{StartInput}
 use Rattle.rules.specs.declared.BridgeRow.{BridgeRow}
 use Rattle.start.specs.declared.Started.{Started}
 use Rattle.start.proofs.Walk.{Answer}

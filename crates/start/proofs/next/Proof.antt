@@ -1,5 +1,4 @@
 -- `start::next` meets its contract: a refusal stays, and else the row is judged by `admit`.
-use mathlib.Core.Path.{sym}
 use mathlib.Core.List.{List}
 use denote.Ref.{now}
 use borrow.Author.Needs.{needs}
@@ -23,15 +22,15 @@ returns c =
 admit-requires : tie.Need-admit-requires
 admit-requires c κs = search needs
 
-no-bridges-requires : tie.Need-no-bridges-requires
-no-bridges-requires c κs = search needs
+without-bridges-requires : tie.Need-without-bridges-requires
+without-bridges-requires c κs = search needs
 
 returns-2 : tie.Need-returns-2
 returns-2 c =
     let a = c .before .before .before in
     let s = a .before .before .before .before .before in
     let no = rejected (admissible (es s) (s .args .s .table) (s .args .row)) (a .admit .result .number) (a .admit .ensures .0) (c .before .if2 .taken) in
-    rw (c .no-bridges .ensures) (next-refuses (es s) (s .args .s) (s .args .i) (s .args .row) (a .before .before .if1 .left) no)
+    rw (c .without-bridges .ensures) (next-refuses (es s) (s .args .s) (s .args .i) (s .args .row) (a .before .before .if1 .left) no)
 
 with-next-requires : tie.Need-with-next-requires
 with-next-requires c κs = search needs
@@ -44,4 +43,4 @@ returns-3 c =
     rw (c .with-next .ensures, a .admit .ensures .1, ok) (next-admits (es s) (s .args .s) (s .args .i) (s .args .row) (a .before .before .if1 .left) ok)
 
 pub next-spec : {M : Type 1} → statement M
-next-spec = tie.close (tie.spec returns admit-requires no-bridges-requires returns-2 with-next-requires returns-3)
+next-spec = tie.close (tie.spec returns admit-requires without-bridges-requires returns-2 with-next-requires returns-3)
