@@ -79,3 +79,8 @@ bytesTable mcfg b = startBy (bytesNumber mcfg b) (lentBytes mcfg b)
 abbrev pub ReadableStarts : Type 0
 ReadableStarts = (mcfg b : List ℕ) → readable b ≡ true
     → (bytesNumber mcfg b ≡ startNumber (lentBytes mcfg b)) × (bytesTable mcfg b ≡ startTable (lentBytes mcfg b))
+
+-- whatever the bytes are, both are those of start with some rows: what is claimed of start's table is claimed of this one
+abbrev pub SomeRowsStart : Type 0
+SomeRowsStart = (mcfg b : List ℕ) → (rows : List BridgeRow)
+    × ((bytesNumber mcfg b ≡ startNumber (record { mcfg = mcfg; rows = rows })) × (bytesTable mcfg b ≡ startTable (record { mcfg = mcfg; rows = rows })))

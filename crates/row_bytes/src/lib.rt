@@ -132,5 +132,5 @@ pub fn start_bytes(mcfg: &[u8], bytes: &[u8]) -> Started
         };
     }
     let rows = rows_of(bytes);
-    start::start(mcfg, rows, bytes.len() / ROW_BYTES)
+    lent_start::start_array(mcfg, rows, bytes.len() / ROW_BYTES)
 }

@@ -26,15 +26,15 @@ returns c =
 rows-of-requires : tie.Need-rows-of-requires
 rows-of-requires c κs = search needs
 
-start-requires : tie.Need-start-requires
-start-requires c κs = search needs
+start-array-requires : tie.Need-start-array-requires
+start-array-requires c κs = search needs
 
 returns-2 : tie.Need-returns-2
 returns-2 c =
     let l = c .before .before .before in
     let a = l .before .before .before .args in
     let s = listable-starts (now (a .mcfg)) (now (a .bytes)) (sym (l .listable .ensures) ∙ not-false _ (c .before .before .if1 .left)) (c .before .rows-of .result) (c .before .rows-of .ensures) in
-    (c .start .ensures .0 ∙ s .0, c .start .ensures .1 ∙ s .1)
+    (c .start-array .ensures .0 ∙ s .0, c .start-array .ensures .1 ∙ s .1)
 
 pub start-bytes-spec : {M : Type 1} → statement M
 start-bytes-spec =
@@ -45,5 +45,5 @@ start-bytes-spec =
     no-bridges-requires
     returns
     rows-of-requires
-    start-requires
+    start-array-requires
     returns-2)
