@@ -59,12 +59,12 @@ fn end() {
     text(b"\n");
 }
 
-// Bridge 0 of session 1, buses 0 to 255 with these permitted bits.
+// Bridge 0 of session 1, with these permitted bits. Entry and row begin at bus 1, so that an address would show a start bus subtracted.
 fn begin(permitted: u32) -> Table
     ensures { λ r. ⌜ Sound r ⌝ }
 {
-    let rows = [fixtures::row(1, 0, 255, permitted); start::LIST_ROWS];
-    let started = fixtures::start(BASE, 255, 1, rows, 1);
+    let rows = [fixtures::row(1, 1, 255, permitted); start::LIST_ROWS];
+    let started = fixtures::start(BASE, 1, 255, 1, rows, 1);
     started.table
 }
 
@@ -163,10 +163,10 @@ fn address(offset: u16, width: u8) {
 }
 
 // Whether an MCFG table starts with no rows: the number, and its word.
-fn sound(base: u64, end_bus: u8, entries: usize)
+fn sound(base: u64, last: u8, entries: usize)
     requires { ⌜ entries ≤ 80 ⌝ }
 {
-    let started = fixtures::start(base, end_bus, entries, fixtures::rows_by_bus(), 0);
+    let started = fixtures::start(base, 0, last, entries, fixtures::rows_by_bus(), 0);
     decimal(b": number ", started.number as u64);
     if started.number == 0 {
         text(b", sound");
@@ -177,10 +177,10 @@ fn sound(base: u64, end_bus: u8, entries: usize)
 }
 
 // One entry.
-fn entry(base: u64, end_bus: u8) {
+fn entry(base: u64, last: u8) {
     hex(b"entry base ", base, 1);
-    decimal(b", buses 0 to ", end_bus as u64);
-    sound(base, end_bus, 1);
+    decimal(b", buses 0 to ", last as u64);
+    sound(base, last, 1);
 }
 
 // Entries of as many segments.
@@ -245,7 +245,7 @@ fn count(n: u32, caps: &[u8], answer: &mut [u8]) {
 
 // So many rows, each of one bus.
 fn rows(count: usize) {
-    let started = fixtures::start(BASE, 255, 1, fixtures::rows_by_bus(), count);
+    let started = fixtures::start(BASE, 0, 255, 1, fixtures::rows_by_bus(), count);
     decimal(b"", count as u64);
     decimal(b" rows: number ", started.number as u64);
     decimal(b", bridges ", started.table.count as u64);

@@ -108,7 +108,7 @@ fn begin() -> Table
     row(b"Bridge 1 carries the cards of a live pond", live);
     let mut rows = [simulated; start::LIST_ROWS];
     rows[1] = live;
-    let started = fixtures::start(BASE, 255, 1, rows, 2);
+    let started = fixtures::start(BASE, 0, 255, 1, rows, 2);
     hex(b"The table starts. MCFG entry at base ", BASE, 8);
     text(b", segment 0, buses 0 to 255; 2 rows");
     came(started.number);
