@@ -1,16 +1,15 @@
 // The calls on the whole table, by value: each is the call on one row, with the row stored back. The index stays inside the array; the call on the row refuses a bridge
 // that the table has not.
 use hpx::Values;
+use locate::Located;
 use rows::Addressed;
 use rows::Reported;
 use rules::BridgeNumber;
 use rules::MAX_ROWS;
-use rules::Place;
 use rules::SessionNumber;
 use rules::Table;
 ghost use mathlib.Core.Path.{_≡_};
 ghost use mathlib.Core.List.{[], _∷_};
-ghost use Rattle.rules.specs.Place.{noPlace};
 ghost use Rattle.rules.specs.Start.{Sound};
 ghost use Rattle.rules.specs.Calls.{
   osc,
@@ -33,13 +32,6 @@ ghost use Rattle.rules.specs.Calls.{
 pub struct TableDone {
     pub number: u8,
     pub table: Table,
-}
-
-// A number, and the place of an address.
-#[repr(C)]
-pub struct Located {
-    pub number: u8,
-    pub place: Place,
 }
 
 pub fn reset(t: Table, s: SessionNumber, n: BridgeNumber) -> TableDone
@@ -128,37 +120,16 @@ pub fn register_values<'a>(
     rows::register_values(t.count, t.bridges[i], s, n, slot, block, current)
 }
 
-// Refusal 4 of locate.
-fn no_place() -> Located
-    ensures { λ r. ⌜ (r .number ≡ 4) × (r .place ≡ noPlace) ⌝ }
-{
-    let bridge = BridgeNumber(0);
-    let place = Place {
-        bridge,
-        bus: 0,
-        device: 0,
-        function: 0,
-        offset: 0,
-    };
-    Located { number: 4, place }
-}
-
 // The first bridge of the session whose window has the address; windows of one table share no byte.
 pub fn locate(t: Table, s: SessionNumber, address: u64) -> Located
     requires { ⌜ Sound t ⌝ }
     ensures { λ r. ⌜ (outcome (r .number) (located (r .place)) [] ≡ step t (locate s address) .outcome) × (t ≡ step t (locate s address) .table) ⌝ }
 {
-    let mut i = 0;
-    while i < t.count {
-        let row = t.bridges[i];
-        if rows::own_window(row, s, address) {
-            let n = BridgeNumber(i as u8);
-            return Located {
-                number: 0,
-                place: ecam::place_of(n, row, address),
-            };
-        }
-        i += 1;
+    let n = t.count;
+    let mut p = locate::begin();
+    while p.next < n {
+        let i = p.next;
+        p = locate::seek(p, n, t.bridges[i], s, address);
     }
-    no_place()
+    p.found
 }
