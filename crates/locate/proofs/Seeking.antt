@@ -2,7 +2,7 @@
 --     Seeking          the search, gone on with, gives what `locate` gives
 --     seek-first, seek-on, seek-end      it holds before the loop and after a turn, and where no row is next the search has the answer
 --     seek-near        a turn comes nearer to the end
-use Prim.Native.Nat.{ℕ, suc, _+_, _-_, _≤_, _<_, zero-le}
+use Prim.Native.Nat.{ℕ, suc, _-_, _≤_, _<_, zero-le}
 use mathlib.Core.Path.{_≡_, refl, sym, ap, _∙_}
 use mathlib.Core.Bool.{Bool, true, false}
 use mathlib.Core.List.{List, [], _∷_}
