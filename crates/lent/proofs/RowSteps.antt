@@ -39,7 +39,7 @@ use Rattle.rules.proofs.Bridge as B
 use Rattle.rules.proofs.Bridge.Laws as B′
 use Rattle.rules.proofs.BridgeNumber as N
 use Rattle.rules.proofs.BridgeNumber.Laws as N′
-use Rattle.lent.proofs.RowIn.{size, mach, row-out, row-in}
+use Rattle.lent.proofs.RowIn.{size, row-fits, mach, row-out, row-in}
 use Rattle.lent.proofs.Params.{finds}
 
 -- the local of the lent table
@@ -62,8 +62,7 @@ unfolding maxRows
 fits-index n = omega (arith, index-in n)
 
 fits-place : (n : BridgeNumber) → index n * size < 2 ^ 64
-unfolding maxRows
-fits-place n = omega (arith, index-in n)
+fits-place n = row-fits (index n) (index-in n)
 
 fits-number : (n : BridgeNumber) → Is N.the-row n (LL.vals N.the-type N′.the-laws n) → n .0 < 2 ^ 64
 fits-number n is = let l : n .0 < 2 ^ 8 = LL.owed N.the-type N′.the-laws n _ is .0 .1 in omega arith

@@ -1,6 +1,7 @@
-// The calls on the lent table: each works on one row in place and stores back what the call on the row hands back. The row of the bridge number modulo `MAX_ROWS` is read
-// whatever the number is; the call on the row refuses a bridge that the table has not.
+// The calls of document 01 on a lent table, which C and Rust link. Each works on one row where it stands: the call on the row hands back the row, and it is stored.
+// The row of the bridge number modulo `MAX_ROWS` is read whatever the number is; the call on the row refuses a bridge that the table has not. The proofs walk the code by hand.
 use hpx::Values;
+use locate::Located;
 use rows::Addressed;
 use rows::Reported;
 use rules::BridgeNumber;
@@ -11,9 +12,65 @@ use start::Started;
 ghost use mathlib.Core.Path.{_≡_};
 ghost use mathlib.Core.List.{[], _∷_};
 ghost use Rattle.rules.specs.Start.{Sound};
+ghost use Rattle.rules.specs.Calls.{
+  osc,
+  reset,
+  report,
+  address,
+  registerValues,
+  on,
+  locate,
+  nothing,
+  reported,
+  addressed,
+  located,
+  values,
+  outcome,
+  step,
+};
 ghost use Rattle.row_bytes.specs.RowBytes.{bytesNumber, bytesTable};
 ghost use Rattle.slipwattle.specs.Boundary.{recordAt};
-ghost use Rattle.rules.specs.Calls.{osc, reset, report, address, registerValues, on, nothing, reported, addressed, values, outcome, step};
+
+// The rows cross as bytes, ten for each, since a row holds an enum.
+#[no_mangle]
+pub extern "C" fn slipwattle_start(mcfg: &[u8], rows: &[u8]) -> Started
+    ensures { λ r. ⌜ (r .number ≡ bytesNumber (now (mcfg .entry)) (now (rows .entry))) × (r .table ≡ bytesTable (now (mcfg .entry)) (now (rows .entry))) ⌝ }
+{
+    row_bytes::start_bytes(mcfg, rows)
+}
+
+// _OSC: the answer buffer is filled, or left as it was lent.
+#[no_mangle]
+pub extern "C" fn slipwattle_osc(
+    t: &mut Table,
+    s: SessionNumber,
+    n: BridgeNumber,
+    revision: u32,
+    count: u32,
+    uuid: &[u8],
+    caps: &[u8],
+    answer: &mut [u8],
+) -> u8
+    requires { ⌜ Sound (now t) ⌝ }
+    ensures { λ r. ⌜ (outcome r nothing (now (uuid .entry) ∷ now (caps .entry) ∷ now (answer .exit) ∷ [])
+        ≡ step (now (t .entry)) (on s n (osc revision count (now (uuid .entry)) (now (caps .entry)) (now (answer .entry)))) .outcome)
+        × (now (t .exit) ≡ step (now (t .entry)) (on s n (osc revision count (now (uuid .entry)) (now (caps .entry)) (now (answer .entry)))) .table) ⌝ }
+{
+    let i = (n.0 as usize) % MAX_ROWS;
+    let done = rows::osc(
+        t.count,
+        t.bridges[i],
+        s,
+        n,
+        revision,
+        count,
+        uuid,
+        caps,
+        answer,
+    );
+    t.bridges[i] = done.row;
+    done.number
+}
 
 #[no_mangle]
 pub extern "C" fn slipwattle_reset(t: &mut Table, s: SessionNumber, n: BridgeNumber) -> u8
@@ -65,63 +122,20 @@ pub extern "C" fn slipwattle_address(
     )
 }
 
-// _OSC: the answer buffer is filled, or left as it was lent.
+// The rows are searched where they stand; locate::seek looks at one.
 #[no_mangle]
-pub extern "C" fn slipwattle_osc(
-    t: &mut Table,
-    s: SessionNumber,
-    n: BridgeNumber,
-    revision: u32,
-    count: u32,
-    uuid: &[u8],
-    caps: &[u8],
-    answer: &mut [u8],
-) -> u8
+pub extern "C" fn slipwattle_locate(t: &mut Table, s: SessionNumber, address: u64) -> Located
     requires { ⌜ Sound (now t) ⌝ }
-    ensures { λ r. ⌜ (outcome r nothing (now (uuid .entry) ∷ now (caps .entry) ∷ now (answer .exit) ∷ [])
-        ≡ step (now (t .entry)) (on s n (osc revision count (now (uuid .entry)) (now (caps .entry)) (now (answer .entry)))) .outcome)
-        × (now (t .exit) ≡ step (now (t .entry)) (on s n (osc revision count (now (uuid .entry)) (now (caps .entry)) (now (answer .entry)))) .table) ⌝ }
+    ensures { λ r. ⌜ (outcome (r .number) (located (r .place)) [] ≡ step (now (t .entry)) (locate s address) .outcome)
+        × (now (t .exit) ≡ step (now (t .entry)) (locate s address) .table) ⌝ }
 {
-    let i = (n.0 as usize) % MAX_ROWS;
-    let done = rows::osc(
-        t.count,
-        t.bridges[i],
-        s,
-        n,
-        revision,
-        count,
-        uuid,
-        caps,
-        answer,
-    );
-    t.bridges[i] = done.row;
-    done.number
-}
-
-#[no_mangle]
-pub extern "C" fn slipwattle_register_values<'a>(
-    t: &mut Table,
-    s: SessionNumber,
-    n: BridgeNumber,
-    slot: &'a [u8],
-    block: &'a [u8],
-    current: &[u32],
-) -> Values
-    requires { ⌜ Sound (now t) ⌝ }
-    ensures { λ r. ⌜ (outcome (r .number) (values (r .values)) (now (slot .entry) ∷ now (block .entry) ∷ now (current .entry) ∷ [])
-        ≡ step (now (t .entry)) (on s n (registerValues (now (slot .entry)) (now (block .entry)) (now (current .entry)))) .outcome)
-        × (now (t .exit) ≡ step (now (t .entry)) (on s n (registerValues (now (slot .entry)) (now (block .entry)) (now (current .entry)))) .table) ⌝ }
-{
-    let i = (n.0 as usize) % MAX_ROWS;
-    rows::register_values(t.count, t.bridges[i], s, n, slot, block, current)
-}
-
-// The rows cross as bytes, ten for each, since a row holds an enum.
-#[no_mangle]
-pub extern "C" fn slipwattle_start(mcfg: &[u8], rows: &[u8]) -> Started
-    ensures { λ r. ⌜ (r .number ≡ bytesNumber (now (mcfg .entry)) (now (rows .entry))) × (r .table ≡ bytesTable (now (mcfg .entry)) (now (rows .entry))) ⌝ }
-{
-    row_bytes::start_bytes(mcfg, rows)
+    let n = t.count;
+    let mut p = locate::begin();
+    while p.next < n {
+        let i = p.next;
+        p = locate::seek(p, n, t.bridges[i], s, address);
+    }
+    p.found
 }
 
 // A found record as it crosses: its number, whether it lies in the slot's block, where it starts there and its length, header included.
@@ -144,4 +158,22 @@ pub extern "C" fn slipwattle_find_record<'a>(slot: &'a [u8], block: &'a [u8], ki
         start: found.start,
         size: found.size,
     }
+}
+
+#[no_mangle]
+pub extern "C" fn slipwattle_register_values<'a>(
+    t: &mut Table,
+    s: SessionNumber,
+    n: BridgeNumber,
+    slot: &'a [u8],
+    block: &'a [u8],
+    current: &[u32],
+) -> Values
+    requires { ⌜ Sound (now t) ⌝ }
+    ensures { λ r. ⌜ (outcome (r .number) (values (r .values)) (now (slot .entry) ∷ now (block .entry) ∷ now (current .entry) ∷ [])
+        ≡ step (now (t .entry)) (on s n (registerValues (now (slot .entry)) (now (block .entry)) (now (current .entry)))) .outcome)
+        × (now (t .exit) ≡ step (now (t .entry)) (on s n (registerValues (now (slot .entry)) (now (block .entry)) (now (current .entry)))) .table) ⌝ }
+{
+    let i = (n.0 as usize) % MAX_ROWS;
+    rows::register_values(t.count, t.bridges[i], s, n, slot, block, current)
 }
