@@ -16,7 +16,6 @@ pub struct Located {
 }
 
 // The row to look at next, and what was found so far.
-#[repr(C)]
 pub struct Search {
     pub next: usize,
     pub found: Located,

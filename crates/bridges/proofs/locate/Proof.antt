@@ -36,19 +36,19 @@ seek-requires : tie.Need-seek-requires Inv-loop μ-loop
 unfolding maxRows
 seek-requires c κs = (c .before .if1 .taken, omega (arith, c .before .before .before .before .before .pre .few))
 
-loop-less : tie.Need-loop-less Inv-loop μ-loop
-loop-less c =
-    let z = c .before .before .before .before .before .before in
-    let l = c .before .before .before .before .loop in
-    subst (λ (q : Search). z .args .t1 .count - q .next < z .args .t1 .count - l .p .next) (sym (c .seek .ensures))
-    (seek-near (z .args .t1) (z .args .s) (z .args .address) (z .pre) (l .p) (l .inv) (c .before .before .if1 .taken))
-
 loop-again : tie.Need-loop-again Inv-loop μ-loop
 loop-again c =
     let z = c .before .before .before .before .before .before in
     let l = c .before .before .before .before .loop in
     subst (Seeking (z .args .t1) (z .args .s) (z .args .address)) (sym (c .seek .ensures))
     (seek-on (z .args .t1) (z .args .s) (z .args .address) (z .pre) (l .p) (l .inv) (c .before .before .if1 .taken))
+
+loop-less : tie.Need-loop-less Inv-loop μ-loop
+loop-less c =
+    let z = c .before .before .before .before .before .before in
+    let l = c .before .before .before .before .loop in
+    subst (λ (q : Search). z .args .t1 .count - q .next < z .args .t1 .count - l .p .next) (sym (c .seek .ensures))
+    (seek-near (z .args .t1) (z .args .s) (z .args .address) (z .pre) (l .p) (l .inv) (c .before .before .if1 .taken))
 
 returns : tie.Need-returns Inv-loop μ-loop
 unfolding step
