@@ -46,6 +46,20 @@ static slipwattle_bridge bridge(uint8_t n) {
     return b;
 }
 
+/* Every row and the count; the bytes between fields hold nothing. */
+static bool same_table(const slipwattle_table *a, const slipwattle_table *b) {
+    size_t i;
+    for (i = 0; i < SLIPWATTLE_MAX_ROWS; i++) {
+        const slipwattle_row *x = &a->bridges[i];
+        const slipwattle_row *y = &b->bridges[i];
+        if (x->base != y->base || x->permitted != y->permitted || x->held != y->held || x->supported != y->supported || x->segment != y->segment ||
+            x->owner.number != y->owner.number || x->first_bus != y->first_bus || x->last_bus != y->last_bus) {
+            return false;
+        }
+    }
+    return a->count == b->count;
+}
+
 /* A buffer of its own for each run of bytes, so that a checker of memory sees its end. */
 static uint8_t *lend(const uint8_t *bytes, size_t length) {
     uint8_t *copy = (uint8_t *)malloc(length > 0 ? length : 1);
@@ -133,7 +147,7 @@ static void negotiates(slipwattle_table *t) {
     slipwattle_reported r;
     memset(answer, 0xAA, sizeof answer);
     CHECK(osc(t, 1, 0, 1, 0x1F, answer) == 0 && memcmp(answer, granted, 12) == 0);
-    CHECK(memcmp(t, &before, sizeof before) == 0);
+    CHECK(same_table(t, &before));
     CHECK(osc(t, 1, 0, 0, 0x0D, answer) == 0 && answer[0] == 0x10 && answer[8] == 0);
     CHECK(osc(t, 1, 0, 0, 0x1F, answer) == 0 && memcmp(answer, granted, 12) == 0);
     r = slipwattle_report(t, session(1), bridge(0));
@@ -157,7 +171,7 @@ static void is_refused(slipwattle_table *t) {
     CHECK(r.number == 2 && r.holding.held == 0 && r.holding.supported == 0);
     a = slipwattle_address(t, session(1), bridge(1), 17, 2, 3, 0x10, 4);
     CHECK(a.number == 2 && a.address == 0);
-    CHECK(memcmp(t, &before, sizeof before) == 0);
+    CHECK(same_table(t, &before));
     for (i = 0; i < sizeof answer; i++) {
         CHECK(answer[i] == 0xAA);
     }
