@@ -29,7 +29,7 @@ use denote.Builtin.{u8, u32, usize}
 use denote.Slice.{sliceVal, MutSlice, ShrSlice, finally, slice-vals, shr-slice-tells, mut-slice-tells, mut-slice-lawful, shr-slice-copy}
 use denote.Signature.{plain}
 use denote.Exit.{yes}
-use denote.Steps.{owned, heard, nothing as true, only}
+use denote.Steps.{owned, heard, nothing as true}
 use denote.Struct.Laws as LL
 use denote.Triple.Entry.{onEntry}
 use denote.Triple.Spec.{Meets, tripleOf}
@@ -63,7 +63,8 @@ use Rattle.bridges.proofs.AtIndex.{index-outcome, index-table}
 use Rattle.lent.proofs.RowIn.{mach}
 use Rattle.lent.proofs.RowSteps.{index, Reads, Stores}
 use Rattle.lent.proofs.Params.{Loc, vals, copies, Fulls, struct-loc, number-loc, slice-loc, mut-slice-loc, copy-all, copy-then, past, third}
-use Rattle.lent.proofs.InPlace.{Shape, in-place, Lends}
+use Rattle.lent.proofs.InPlace.{in-place, Lends}
+use Rattle.slipwattle.proofs.Done.{shape}
 use Rattle.slipwattle.proofs.slipwattle_osc.Key.{name as #own}
 use Rattle.slipwattle.proofs.slipwattle_osc as own
 use Rattle.slipwattle.proofs.slipwattle_osc.Statement as stated
@@ -238,20 +239,6 @@ module _ {M : Type 1} (𝓤 : URA M) (H : Heap 𝓤) (A : Atoms 𝓤) (W : Given
       owned ! N.the-row (Is N.the-row) (LL.makes N.the-type N′.the-plain 𝓤 H A) n _ (are .1 .0) $ fjoin ! $ owned ! S.the-row (Is S.the-row) (LL.makes S.the-type S′.the-plain 𝓤 H A) s _ (are .0) $ fjoin ! $
       move ! (1 ∷ 0 ∷ []) $ fjoin ! $ frame ! $ owned ! u8 (Is u8) (uint-makes 𝓤 H A W w8) (x .0 .number) _ (LL.owed D.the-type D′.the-laws (x .0) (v ∷ []) is .0) $ done !
 
-  -- the row's struct
-  abbrev shape : Shape D.the-row ℕ
-  shape = record {
-    name = D.struct .name;
-    ty = tyInt w8;
-    val = vint w8;
-    res = λ d. d .number;
-    row = λ d. d .row;
-    spelled = λ d v is. ap only (LL.tells D.the-type D′.the-laws d (v ∷ []) is);
-    typed = λ d v is. LL.lawful D.the-type D′.the-laws 𝓤 H A W .typed d (v ∷ []) is .0;
-    typed-res = λ d v is. (tt, record { fits = LL.owed D.the-type D′.the-laws d (v ∷ []) is .0 .1 });
-    is-row = λ d v is. LL.owed D.the-type D′.the-laws d (v ∷ []) is .1 .0;
-  }
-
   -- the parameters behind the bridge number
   abbrev Ps : List Loc
   Ps =
@@ -264,7 +251,7 @@ module _ {M : Type 1} (𝓤 : URA M) (H : Heap 𝓤) (A : Atoms 𝓤) (W : Given
     abbrev stores : Stores
     stores = record { p = 18; p′ = 19 }
 
-    lent-on : Lends W C Λ fm D.the-row ℕ shape (struct-loc W S.the-type S′.the-laws s (are .0)) n (are .1 .0) Ps (Bytes ∷ Slice) #core reads 10 stores lending (copies 2 Front ++ (copy (place 17 []) ∷ [])) (vals Front ++ (sliceVal (answer .ptr) (length (answer .now)) ∷ [])) pre
+    lent-on : Lends W C Λ fm D.the-row ℕ (shape W) (struct-loc W S.the-type S′.the-laws s (are .0)) n (are .1 .0) Ps (Bytes ∷ Slice) #core reads 10 stores lending (copies 2 Front ++ (copy (place 17 []) ∷ [])) (vals Front ++ (sliceVal (answer .ptr) (length (answer .now)) ∷ [])) pre
     lent-on m t ls i e w w′ p p′ r es x x′ Q Γ rest = (
       (λ go.
           -- the answer's local is taken out: [it; …; the other parameters; _17; …; _16; …]
@@ -280,7 +267,7 @@ module _ {M : Type 1} (𝓤 : URA M) (H : Heap 𝓤) (A : Atoms 𝓤) (W : Given
     walk : Sound h → ent 𝓤 (onEntry 𝓤 H A own.signature (κ, (κ₁, (κ₂, (κ₃, tt)))) (q, (q₁, (q₂, (q₃, tt)))) (record { ptr = (b, o); name = γ; now = h }, a) (vptr b o ∷ [], at κ₁ κ₂ κ₃ a)) (WpFn 𝓤 H C Λ code.function (vptr b o ∷ vals (Front ++ Last)) Post)
     unfolding maxRows
     walk sound =
-        in-place W C Λ fm D.the-row ℕ shape (struct-loc W S.the-type S′.the-laws s (are .0)) n (are .1 .0) Ps (Bytes ∷ Slice) #core reads 10 stores lending (copies 2 Front ++ (copy (place 17 []) ∷ [])) (vals Front ++ (sliceVal (answer .ptr) (length (answer .now)) ∷ []))
+        in-place W C Λ fm D.the-row ℕ (shape W) (struct-loc W S.the-type S′.the-laws s (are .0)) n (are .1 .0) Ps (Bytes ∷ Slice) #core reads 10 stores lending (copies 2 Front ++ (copy (place 17 []) ∷ [])) (vals Front ++ (sliceVal (answer .ptr) (length (answer .now)) ∷ []))
         (λ m t ls i e w w′ p p′ r es x x′. ((refl, (refl, (refl, (refl, (refl, (refl, (refl, tt))))))), (refl, (refl, (refl, (refl, (refl, (refl, (refl, (refl, refl)))))))))) κ q b o γ h toks Own (‵ Uuid ⊛ ‵ Caps)
         pre (Core 𝓤 H A mem run .post to) lent-on (known to) asked (RowDone × List ℕ) (λ x. x .0) (λ x. toks ⊛ ‵ (finally u8 (answer .name) (x .1))) Says gives Post (exits sound) code.function refl refl
 
