@@ -1,4 +1,4 @@
--- A call on the lent table that changes one row in place, once for every such call: `let i = (n.0 as usize) % MAX_ROWS; let done = rows::f(t.count, t.bridges[i], s, n, p, ..); t.bridges[i] = done.row; done.number`.
+-- A call on the lent table that changes one row in place, once for every such call: `let i = rows::index(n); let done = rows::f(t.count, t.bridges[i], s, n, p, ..); t.bridges[i] = done.row; done.number`.
 -- Between the row's copy and the call stand the statements that lend a `&mut` parameter on (`mid`, which fills the locals `Extras`), or none.
 --     Shape            the row's struct: its result in field 0 and the row in field 1, and what owning one shows
 --     in-place         the walk: the count and the row are copied, the row's call is called, its row is stored in place of the row, and its result is returned
@@ -14,8 +14,11 @@ use mir.Syntax.{Sym, Ty, Name, w64, tyPtr, tyStruct, tcons, tnil, named, Local, 
 use mir.Val.{Val, vint, vptr, vstruct, vcons, vnil, WT, hasTy}
 use base.Logic.{SProp, ent, sep}
 use base.Fml.{GName, Lft, Share, Fml, fsep, flft, fat, fobs, fbor}
+use prog.Memory.{Memory}
+use prog.Routine.{Routine}
 use prog.Wp.{Heap, WpFn, Env, Calls, Loops, noLocal}
 use ghost.Atoms.{Atoms, sem}
+use contract.Monad.{Fun}
 use types.Kit.{Given, Goal, Item, Post as Ending, Sq, Go, Soaks, mean, allocs, params′, runs, atRet, ‵, raw, _⊛_, ⋆, _$_, _∵_, !, qed, step, by, move, drop, rewrite, use2, split, fsplit, fsplit3, fjoin}
 use types.Run.{Opds, enter, look, init, forget, stop, fld, from, load, of-opd, and-then, assigns, land, returns, alloc1, alloc0, params1, pass1, free1, free0}
 use types.Part.{whole, sub, look-in}
@@ -28,6 +31,7 @@ use denote.Ref.{MutRef}
 use denote.Steps.{peeks}
 use denote.Struct.Laws as LL
 use denote.Triple.Call.{calls-from}
+use denote.Triple.Statement.{Triple}
 use sound.WpLaws.{FmC}
 use Rattle.rules.specs.Tables.{bridgeAt, withBridge}
 use Rattle.rules.specs.declared.Table.{Table}
@@ -38,9 +42,10 @@ use Rattle.rules.proofs.Bridge as B
 use Rattle.rules.proofs.Bridge.Laws as B′
 use Rattle.rules.proofs.BridgeNumber as N
 use Rattle.rules.proofs.BridgeNumber.Laws as N′
+use Rattle.rows.proofs.index.Symbol.{name as #index}
 use Rattle.lent.proofs.RowIn.{mach}
 use Rattle.lent.proofs.Params.{Loc, Blocks as Cells, locals, vals, envs, Rooms, Fulls, Bound, alloc-all, pass-all, free-all, finds}
-use Rattle.lent.proofs.RowSteps.{ref-ty, word, index, Reads, Stores, copying, storing, row-copied, row-stored}
+use Rattle.lent.proofs.RowSteps.{ref-ty, word, index, Indexes, Reads, Stores, copying, storing, row-copied, row-stored}
 
 pub record Shape (D : RattleType) (Res : Type 0) : Type 2 where
   pub name : Sym
@@ -53,7 +58,8 @@ pub record Shape (D : RattleType) (Res : Type 0) : Type 2 where
   pub typed-res : (d : D .Denot) (v : Val) → Is D d (v ∷ []) → So (hasTy ty (val (res d))) × WT (val (res d))
   pub is-row : (d : D .Denot) (v : Val) → Is D d (v ∷ []) → Is B.the-row (row d) (mach (row d) ∷ [])
 
-module _ {M : Type 1} {𝓤 : URA M} {H : Heap 𝓤} {A : Atoms 𝓤} (W : Given 𝓤 H A) (C : Calls 𝓤 H) (Λ : Loops 𝓤 H) (fm : FmC 𝓤 H (W .laws) C) (D : RattleType) (Res : Type 0) (sh : Shape D Res)
+module _ {M : Type 1} {𝓤 : URA M} {H : Heap 𝓤} {A : Atoms 𝓤} (W : Given 𝓤 H A) (C : Calls 𝓤 H) (Λ : Loops 𝓤 H) (fm : FmC 𝓤 H (W .laws) C) (mem′ : Memory → SProp 𝓤) (run : Routine → Fun 𝓤) (indexes : Triple 𝓤 (C #index) (Indexes 𝓤 H A mem′ run))
+    (D : RattleType) (Res : Type 0) (sh : Shape D Res)
     (P₂ : Loc) (n : BridgeNumber) (is-n : Is N.the-row n (LL.vals N.the-type N′.the-laws n)) (Ps Extras : List Loc) (key : Name) (k : Reads) (d : ℕ) (l : Stores) (mid : Code → Code) (args : List Operand) (argvals : List Val) where
   abbrev done-ty : Ty
   done-ty = tyStruct (sh .name) (tcons (sh .ty) (tcons B′.mir tnil))
@@ -112,7 +118,7 @@ module _ {M : Type 1} {𝓤 : URA M} {H : Heap 𝓤} {A : Atoms 𝓤} (W : Given
         params1 ! $ pass1 ! (init ! 20 refl (tt, tt)) $ move ! (19 ∷ []) $ pass-all W All ls (temps i e w w′ p p′ r es q q′) (
         -- the bridge number is taken out of the parameters: [n; …; the others; _2; q′; …; q; …; those of `mid`; r; …; p′; …; p; …; w′; …; w; …; what comes back; …; i; …; the reference; …; the result; …; the borrow; toks; own]
         fsplit ! $ move ! (1 ∷ []) $ fsplit ! $ fsplit ! $ move ! (23 ∷ 0 ∷ 21 ∷ 17 ∷ 15 ∷ 13 ∷ 11 ∷ 9 ∷ 27 ∷ 28 ∷ 29 ∷ []) $
-        row-copied W C Λ E (atRet E Post) κ sq b o γ h n k (record { t = t; n = ls .1 .0; i = i; w = w; w′ = w′; p = p; p′ = p′; r = r })
+        row-copied W C Λ E (atRet E Post) κ sq b o γ h n k fm mem′ run indexes (record { t = t; n = ls .1 .0; i = i; w = w; w′ = w′; p = p; p′ = p′; r = r })
         (refl, (at .0 .1 .0, (at .1 .0, (at .1 .1 .0, (at .1 .1 .1 .0, (at .1 .1 .1 .1 .0, (at .1 .1 .1 .1 .1 .0, at .1 .1 .1 .1 .1 .1 .0))))))) is-n (λ is-c is-r.
         -- it is put back, and a `&mut` parameter is lent on: [the parameters; the reference; i; w; w′; p; p′; r; the borrow; q′; …; q; …; those of `mid`; the cells' ends; what comes back; …]
         move ! (1 ∷ 11 ∷ []) $ fjoin ! $ move ! (0 ∷ 11 ∷ []) $ fjoin ! $ move ! (11 ∷ 0 ∷ []) $ fjoin ! $ move ! (15 ∷ 0 ∷ []) $ step (on _ _ .0) $

@@ -1,4 +1,4 @@
--- A call that only reads one row of the lent table, once for every such call: `let i = (n.0 as usize) % MAX_ROWS; rows::f(t.count, t.bridges[i], s, n, p, ..)`. The result is the row's call's.
+-- A call that only reads one row of the lent table, once for every such call: `let i = rows::index(n); rows::f(t.count, t.bridges[i], s, n, p, ..)`. The result is the row's call's.
 --     Places           which locals the environment has where; of a function that is known, each part is `refl`
 --     reading          the walk: the count and the row are copied, the row's call is called, and its result is returned
 -- The walk assumes `Given`.
@@ -12,8 +12,11 @@ use mir.Syntax.{Ty, Name, w64, tyPtr, named, Local, local, valueLocal, Body as C
 use mir.Val.{Val, vint, vptr, WT, hasTy}
 use base.Logic.{SProp, ent, sep}
 use base.Fml.{GName, Lft, Share, Fml, fsep, flft, fobs, fbor}
+use prog.Memory.{Memory}
+use prog.Routine.{Routine}
 use prog.Wp.{Heap, WpFn, Env, Calls, Loops, noLocal}
 use ghost.Atoms.{Atoms, sem}
+use contract.Monad.{Fun}
 use types.Kit.{Given, Goal, Item, Sq, Soaks, mean, allocs, params′, runs, atRet, ‵, raw, _⊛_, ⋆, _$_, _∵_, !, qed, by, move, drop, use2, split, fsplit, fsplit3, fjoin}
 use types.Run.{enter, look, init, forget, stop, from, load, and-then, land, returns, alloc1, alloc0, params1, pass1, free1, free0}
 use types.SemTy.{Body}
@@ -25,6 +28,7 @@ use denote.Ref.{MutRef}
 use denote.Steps.{peeks}
 use denote.Struct.Laws as LL
 use denote.Triple.Call.{calls-from}
+use denote.Triple.Statement.{Triple}
 use sound.WpLaws.{FmC}
 use Rattle.rules.specs.Tables.{bridgeAt}
 use Rattle.rules.specs.declared.Table.{Table}
@@ -34,11 +38,13 @@ use Rattle.rules.proofs.Bridge as B
 use Rattle.rules.proofs.Bridge.Laws as B′
 use Rattle.rules.proofs.BridgeNumber as N
 use Rattle.rules.proofs.BridgeNumber.Laws as N′
+use Rattle.rows.proofs.index.Symbol.{name as #index}
 use Rattle.lent.proofs.RowIn.{mach}
 use Rattle.lent.proofs.Params.{Loc, Blocks as Cells, locals, vals, copies, envs, Fulls, Bound, alloc-all, pass-all, free-all, finds, turn, copy-all}
-use Rattle.lent.proofs.RowSteps.{ref-ty, word, index, Reads, copying, row-copied}
+use Rattle.lent.proofs.RowSteps.{ref-ty, word, index, Indexes, Reads, copying, row-copied}
 
-module _ {M : Type 1} {𝓤 : URA M} {H : Heap 𝓤} {A : Atoms 𝓤} (W : Given 𝓤 H A) (C : Calls 𝓤 H) (Λ : Loops 𝓤 H) (fm : FmC 𝓤 H (W .laws) C) (D : RattleType) (ty : Ty) (typed : (d : D .Denot) (v : Val) → Is D d (v ∷ []) → So (hasTy ty v) × WT v)
+module _ {M : Type 1} {𝓤 : URA M} {H : Heap 𝓤} {A : Atoms 𝓤} (W : Given 𝓤 H A) (C : Calls 𝓤 H) (Λ : Loops 𝓤 H) (fm : FmC 𝓤 H (W .laws) C) (mem′ : Memory → SProp 𝓤) (run : Routine → Fun 𝓤) (indexes : Triple 𝓤 (C #index) (Indexes 𝓤 H A mem′ run))
+    (D : RattleType) (ty : Ty) (typed : (d : D .Denot) (v : Val) → Is D d (v ∷ []) → So (hasTy ty v) × WT v)
     (P₂ : Loc) (n : BridgeNumber) (is-n : Is N.the-row n (LL.vals N.the-type N′.the-laws n)) (Ps : List Loc) (key : Name) (k : Reads) where
   -- the parameters but the table: the session, the bridge number, the others
   abbrev P₃ : Loc
@@ -83,7 +89,7 @@ module _ {M : Type 1} {𝓤 : URA M} {H : Heap 𝓤} {A : Atoms 𝓤} (W : Given
         params1 ! $ pass1 ! (init ! 13 refl (tt, tt)) $ move ! (12 ∷ []) $ pass-all W All ls (temps i w w′ p p′ r) (
         -- the bridge number is taken out of the parameters: [n; …; the others; _2; r; …; p′; …; p; …; w′; …; w; …; i; …; the reference; …; the result; …; the borrow; toks; own]
         fsplit ! $ move ! (1 ∷ []) $ fsplit ! $ fsplit ! $ move ! (16 ∷ 0 ∷ 14 ∷ 12 ∷ 10 ∷ 8 ∷ 6 ∷ 4 ∷ 20 ∷ 21 ∷ 22 ∷ []) $
-        row-copied W C Λ E (atRet E Post) κ q b o γ h n k (record { t = t; n = ls .1 .0; i = i; w = w; w′ = w′; p = p; p′ = p′; r = r }) (refl, (at .0 .1 .0, at .1)) is-n (λ is-c is-r.
+        row-copied W C Λ E (atRet E Post) κ q b o γ h n k fm mem′ run indexes (record { t = t; n = ls .1 .0; i = i; w = w; w′ = w′; p = p; p′ = p′; r = r }) (refl, (at .0 .1 .0, at .1)) is-n (λ is-c is-r.
         -- it is put back: [the parameters; the reference; i; w; w′; p; p′; r; the borrow; the cells' ends; the result; …; toks; own]
         move ! (1 ∷ 11 ∷ []) $ fjoin ! $ move ! (0 ∷ 11 ∷ []) $ fjoin ! $ move ! (11 ∷ 0 ∷ []) $ fjoin ! $
         -- the call

@@ -3,12 +3,15 @@ use hpx::Values;
 use rules::Bridge;
 use rules::BridgeNumber;
 use rules::Holding;
+use rules::MAX_ROWS;
 use rules::SessionNumber;
 ghost use mathlib.Core.Path.{_≡_};
 ghost use mathlib.Core.List.{[], _∷_};
 ghost use mathlib.Core.Bool.{not};
+ghost use Prim.Native.Nat.{_%_};
 ghost use lib.Bits.{bitAnd};
 ghost use lib.Dec.{eqb};
+ghost use Rattle.rules.specs.Limits.{maxRows};
 ghost use Rattle.rules.specs.Numbers.{bit};
 ghost use Rattle.rules.specs.Refusals.{_if_, firstOf};
 ghost use Rattle.rules.specs.Place.{ownWindow};
@@ -54,6 +57,13 @@ pub struct Reported {
 pub struct Addressed {
     pub number: u8,
     pub address: u64,
+}
+
+// The place of a bridge's row in the table's array. It is inside the array whatever the number is; the calls refuse a number that the table has not.
+pub fn index(n: BridgeNumber) -> usize
+    ensures { λ r. ⌜ r ≡ n .0 % maxRows ⌝ }
+{
+    (n.0 as usize) % MAX_ROWS
 }
 
 // Refusals 1 and 2, which are those of reset and of report.

@@ -1,11 +1,10 @@
 // The calls of document 01 on a lent table, which C and Rust link. Each works on one row where it stands: the call on the row hands back the row, and it is stored.
-// The row of the bridge number modulo `MAX_ROWS` is read whatever the number is; the call on the row refuses a bridge that the table has not. The proofs walk the code by hand.
+// Some row is read whatever the bridge number is (rows::index); the call on the row refuses a bridge that the table has not. The proofs walk the code by hand.
 use hpx::Values;
 use locate::Located;
 use rows::Addressed;
 use rows::Reported;
 use rules::BridgeNumber;
-use rules::MAX_ROWS;
 use rules::SessionNumber;
 use rules::Table;
 use start::Started;
@@ -56,7 +55,7 @@ pub extern "C" fn slipwattle_osc(
         ≡ step (now (t .entry)) (on s n (osc revision count (now (uuid .entry)) (now (caps .entry)) (now (answer .entry)))) .outcome)
         × (now (t .exit) ≡ step (now (t .entry)) (on s n (osc revision count (now (uuid .entry)) (now (caps .entry)) (now (answer .entry)))) .table) ⌝ }
 {
-    let i = (n.0 as usize) % MAX_ROWS;
+    let i = rows::index(n);
     let done = rows::osc(
         t.count,
         t.bridges[i],
@@ -77,7 +76,7 @@ pub extern "C" fn slipwattle_reset(t: &mut Table, s: SessionNumber, n: BridgeNum
     requires { ⌜ Sound (now t) ⌝ }
     ensures { λ r. ⌜ (outcome r nothing [] ≡ step (now (t .entry)) (on s n reset) .outcome) × (now (t .exit) ≡ step (now (t .entry)) (on s n reset) .table) ⌝ }
 {
-    let i = (n.0 as usize) % MAX_ROWS;
+    let i = rows::index(n);
     let done = rows::reset(t.count, t.bridges[i], s, n);
     t.bridges[i] = done.row;
     done.number
@@ -89,7 +88,7 @@ pub extern "C" fn slipwattle_report(t: &mut Table, s: SessionNumber, n: BridgeNu
     ensures { λ r. ⌜ (outcome (r .number) (reported (r .holding)) [] ≡ step (now (t .entry)) (on s n report) .outcome)
         × (now (t .exit) ≡ step (now (t .entry)) (on s n report) .table) ⌝ }
 {
-    let i = (n.0 as usize) % MAX_ROWS;
+    let i = rows::index(n);
     rows::report(t.count, t.bridges[i], s, n)
 }
 
@@ -108,7 +107,7 @@ pub extern "C" fn slipwattle_address(
     ensures { λ r. ⌜ (outcome (r .number) (addressed (r .address)) [] ≡ step (now (t .entry)) (on s n (address bus device function offset width)) .outcome)
         × (now (t .exit) ≡ step (now (t .entry)) (on s n (address bus device function offset width)) .table) ⌝ }
 {
-    let i = (n.0 as usize) % MAX_ROWS;
+    let i = rows::index(n);
     rows::address(
         t.count,
         t.bridges[i],
@@ -174,6 +173,6 @@ pub extern "C" fn slipwattle_register_values<'a>(
         ≡ step (now (t .entry)) (on s n (registerValues (now (slot .entry)) (now (block .entry)) (now (current .entry)))) .outcome)
         × (now (t .exit) ≡ step (now (t .entry)) (on s n (registerValues (now (slot .entry)) (now (block .entry)) (now (current .entry)))) .table) ⌝ }
 {
-    let i = (n.0 as usize) % MAX_ROWS;
+    let i = rows::index(n);
     rows::register_values(t.count, t.bridges[i], s, n, slot, block, current)
 }

@@ -50,9 +50,12 @@ use Rattle.rows.proofs.address as core
 use Rattle.rows.proofs.address.Symbol as core-def
 use Rattle.rows.proofs.address.Symbol.{name as #core}
 use Rattle.rows.proofs.address.Met as core-thm
+use Rattle.rows.proofs.index.Symbol as index-def
+use Rattle.rows.proofs.index.Symbol.{name as #index}
+use Rattle.rows.proofs.index.Met as index-thm
 use Rattle.bridges.proofs.AtIndex.{index-outcome, table-kept, index-sound}
 use Rattle.lent.proofs.RowIn.{mach}
-use Rattle.lent.proofs.RowSteps.{index}
+use Rattle.lent.proofs.RowSteps.{index, Indexes}
 use Rattle.lent.proofs.Params.{Param, number, struct, rows, spells, all-tell, at, stays, locs, twice, goes, vals, struct-loc, number-loc}
 use Rattle.lent.proofs.Ends.{asked, gives, ends}
 use Rattle.lent.proofs.Reading.{reading}
@@ -104,21 +107,21 @@ module _ {M : Type 1} (𝓤 : URA M) (H : Heap 𝓤) (A : Atoms 𝓤) (W : Given
       → ent 𝓤 (⋆ 𝓤 H A (‵ (fobs γ (T.the-row .coded .code h)) ∷ ‵ (fbor κ (Body (mem-of T.the-row) b o γ)) ∷ ‵ (flft κ q) ∷ ‵ ftrue ∷ ‵ Own ∷ ‵ (D.the-row .own d (v ∷ [])) ∷ [])) (Post v)
   exits sound d v e = via 𝓤 _ (ends W (‵ ftrue) Own κ q b o γ h (D.the-row .own d (v ∷ [])) _ (so h (a .0) (a .1 .0) (a .1 .1 .0) (a .1 .1 .1 .0) (a .1 .1 .1 .1 .0) (a .1 .1 .1 .1 .1 .0) (a .1 .1 .1 .1 .1 .1 .0) d sound e)) (ends-at 𝓤 H A own.ended stayed (own.clauses 𝓤 H A mem run) W y v d (h, (tt, (tt, (tt, (tt, (tt, (tt, (tt, tt)))))))) (tt, (tt, (tt, (tt, (tt, (tt, (tt, (tt, tt)))))))))
 
-  module _ (C : Calls 𝓤 H) (Λ : Loops 𝓤 H) (fm : FmC 𝓤 H (W .laws) C) (known : Triple 𝓤 (C #core) (Core 𝓤 H A mem run)) where
+  module _ (C : Calls 𝓤 H) (Λ : Loops 𝓤 H) (fm : FmC 𝓤 H (W .laws) C) (known : Triple 𝓤 (C #core) (Core 𝓤 H A mem run)) (indexes : Triple 𝓤 (C #index) (Indexes 𝓤 H A mem run)) where
     walk : Sound h → ent 𝓤 (onEntry 𝓤 H A own.signature (κ, tt) (q, tt) (record { ptr = (b, o); name = γ; now = h }, a) (vptr b o ∷ [], at Ps a)) (WpFn 𝓤 H C Λ code.function (vptr b o ∷ vals (locs 𝓤 H A W Ps a are)) Post)
     unfolding maxRows
     walk sound =
-        reading W C Λ fm D.the-row D′.mir (λ d v is. LL.lawful D.the-type D′.the-laws 𝓤 H A W .typed d (v ∷ []) is .0) (struct-loc W S.the-type S′.the-laws (a .0) (are .0)) (a .1 .0) (are .1 .0)
+        reading W C Λ fm mem run indexes D.the-row D′.mir (λ d v is. LL.lawful D.the-type D′.the-laws 𝓤 H A W .typed d (v ∷ []) is .0) (struct-loc W S.the-type S′.the-laws (a .0) (are .0)) (a .1 .0) (are .1 .0)
         (number-loc W w8 (a .1 .1 .0) (are .1 .1 .0) ∷ number-loc W w8 (a .1 .1 .1 .0) (are .1 .1 .1 .0) ∷ number-loc W w8 (a .1 .1 .1 .1 .0) (are .1 .1 .1 .1 .0) ∷ number-loc W w16 (a .1 .1 .1 .1 .1 .0) (are .1 .1 .1 .1 .1 .0) ∷ number-loc W w8 (a .1 .1 .1 .1 .1 .1 .0) (are .1 .1 .1 .1 .1 .1 .0) ∷ []) #core (record { i = 9; w = 10; w′ = 11; p = 12; p′ = 13; r = 14 }) (λ l t ls i w w′ p p′ r. ((refl, (refl, (refl, (refl, (refl, (refl, (refl, tt))))))), (refl, (refl, (refl, (refl, (refl, refl))))))) κ q b o γ h (‵ ftrue) Own (‵ Own)
         (Core 𝓤 H A mem run .pre to) (Core 𝓤 H A mem run .post to) (known to) (asked W (‵ ftrue) Own (twice 𝓤 H A W Ps a) (fact 𝓤 (RowSound (h .count) (a .1 .0) r)) (factI 𝓤 _ _ (index-sound h maxRows (sound .few) (a .0) (a .1 .0) (address 0 0 0 0 0) sound)) (h .count) r)
         Addressed (λ d. d) (λ d. ‵ ftrue) (Said h (a .0) (a .1 .0) (a .1 .1 .0) (a .1 .1 .1 .0) (a .1 .1 .1 .1 .0) (a .1 .1 .1 .1 .1 .0) (a .1 .1 .1 .1 .1 .1 .0)) (gives W (‵ ftrue) Own D.the-row Ens (Said h (a .0) (a .1 .0) (a .1 .1 .0) (a .1 .1 .1 .0) (a .1 .1 .1 .1 .0) (a .1 .1 .1 .1 .1 .0) (a .1 .1 .1 .1 .1 .1 .0)) said (Core 𝓤 H A mem run .post to) (λ v. id⊢ 𝓤 _)) Post (λ d v is. exits sound d v) code.function refl refl
 
-meets : {M : Type 1} (𝓤 : URA M) (H : Heap 𝓤) (A : Atoms 𝓤) → Given 𝓤 H A → (mem : Memory → SProp 𝓤) (run : Routine → Fun 𝓤) (𝓣 : Tables 𝓤 H) → Triple 𝓤 (𝓣 .C #core) (Core 𝓤 H A mem run)
+meets : {M : Type 1} (𝓤 : URA M) (H : Heap 𝓤) (A : Atoms 𝓤) → Given 𝓤 H A → (mem : Memory → SProp 𝓤) (run : Routine → Fun 𝓤) (𝓣 : Tables 𝓤 H) → Triple 𝓤 (𝓣 .C #core) (Core 𝓤 H A mem run) → Triple 𝓤 (𝓣 .C #index) (Indexes 𝓤 H A mem run)
     → Meets 𝓤 H A own.signature (WpFn 𝓤 H (𝓣 .C) (𝓣 .Λ) code.function) (own.spec 𝓤 H A mem run)
-meets 𝓤 H A W mem run 𝓣 known =
+meets 𝓤 H A W mem run 𝓣 known indexes =
     walk-meets 𝓤 H A own.ended stayed W (goes-ref 𝓤 H A W 1 0 tt (plain (λ _. T.the-row)), goes 𝓤 H A W Ps) (own.clauses 𝓤 H A mem run) (WpFn 𝓤 H (𝓣 .C) (𝓣 .Λ) code.function) (WpFn-mono 𝓤 H (W .laws) 𝓣 code.function)
     (walked 𝓤 H A own.ended stayed (own.clauses 𝓤 H A mem run) (WpFn 𝓤 H (𝓣 .C) (𝓣 .Λ) code.function) (λ κs. (ptr-vals, spells Ps)) (λ κs. (mut-tells (named 0) (κs .0) T.the-row, all-tell Ps))
-    (λ κs qs bounds a g are. needs 𝓤 (Sound (a .0 .now)) _ (walk 𝓤 H A W mem run (κs .0) (qs .0) (a .0 .ptr .0) (a .0 .ptr .1) (a .0 .name) (a .0 .now) (a .1) (are .1) (𝓣 .C) (𝓣 .Λ) (fmOf 𝓤 H (W .laws) 𝓣) known)))
+    (λ κs qs bounds a g are. needs 𝓤 (Sound (a .0 .now)) _ (walk 𝓤 H A W mem run (κs .0) (qs .0) (a .0 .ptr .0) (a .0 .ptr .1) (a .0 .name) (a .0 .now) (a .1) (are .1) (𝓣 .C) (𝓣 .Λ) (fmOf 𝓤 H (W .laws) 𝓣) known indexes)))
 
 pub slipwattle-address-spec : {M : Type 1} → stated.statement M
 unfolding code.routine tablesOf
@@ -126,4 +129,5 @@ slipwattle-address-spec 𝓤 H 𝓜 𝓖 𝓡 =
     entered 𝓤 H (tripleOf 𝓤 H (𝓖 .A) own.signature (own.spec 𝓤 H (𝓖 .A) (𝓜 .mem) (𝓡 .run)))
     (tables 𝓤 H 𝓜 𝓡 code.env .C) (tables 𝓤 H 𝓜 𝓡 code.env .Λ) #own code.function (code.unfolded 𝓤 H 𝓜 𝓡)
     (meets 𝓤 H (𝓖 .A) (givenOf 𝓤 H 𝓜 𝓖) (𝓜 .mem) (𝓡 .run) (tablesOf 𝓤 H 𝓜 (tables 𝓤 H 𝓜 𝓡 code.env))
-    (cited 𝓤 H (Core 𝓤 H (𝓖 .A) (𝓜 .mem) (𝓡 .run)) 𝓜 𝓡 code.env #core core-def.routine code.calls-rows·address (core-thm.met 𝓤 H 𝓜 𝓖 𝓡)))
+    (cited 𝓤 H (Core 𝓤 H (𝓖 .A) (𝓜 .mem) (𝓡 .run)) 𝓜 𝓡 code.env #core core-def.routine code.calls-rows·address (core-thm.met 𝓤 H 𝓜 𝓖 𝓡))
+    (cited 𝓤 H (Indexes 𝓤 H (𝓖 .A) (𝓜 .mem) (𝓡 .run)) 𝓜 𝓡 code.env #index index-def.routine code.calls-rows·index (index-thm.met 𝓤 H 𝓜 𝓖 𝓡)))

@@ -59,9 +59,12 @@ use Rattle.rows.proofs.osc as core
 use Rattle.rows.proofs.osc.Symbol as core-def
 use Rattle.rows.proofs.osc.Symbol.{name as #core}
 use Rattle.rows.proofs.osc.Met as core-thm
+use Rattle.rows.proofs.index.Symbol as index-def
+use Rattle.rows.proofs.index.Symbol.{name as #index}
+use Rattle.rows.proofs.index.Met as index-thm
 use Rattle.bridges.proofs.AtIndex.{index-outcome, index-table}
 use Rattle.lent.proofs.RowIn.{mach}
-use Rattle.lent.proofs.RowSteps.{index, Reads, Stores}
+use Rattle.lent.proofs.RowSteps.{index, Indexes, Reads, Stores}
 use Rattle.lent.proofs.Params.{Loc, vals, copies, Fulls, struct-loc, number-loc, slice-loc, mut-slice-loc, copy-all, copy-then, past, third}
 use Rattle.lent.proofs.InPlace.{in-place, Lends}
 use Rattle.slipwattle.proofs.Done.{shape}
@@ -244,14 +247,14 @@ module _ {M : Type 1} (𝓤 : URA M) (H : Heap 𝓤) (A : Atoms 𝓤) (W : Given
   Ps =
       number-loc W w32 (a .1 .1 .0) (are .1 .1 .0) ∷ number-loc W w32 (a .1 .1 .1 .0) (are .1 .1 .1 .0) ∷ slice-loc W (named 1) κ₁ u8 uuid (are .1 .1 .1 .1 .0) ∷ slice-loc W (named 2) κ₂ u8 caps (are .1 .1 .1 .1 .1 .0) ∷ Last
 
-  module _ (C : Calls 𝓤 H) (Λ : Loops 𝓤 H) (fm : FmC 𝓤 H (W .laws) C) (known : Triple 𝓤 (C #core) (Core 𝓤 H A mem run)) where
+  module _ (C : Calls 𝓤 H) (Λ : Loops 𝓤 H) (fm : FmC 𝓤 H (W .laws) C) (known : Triple 𝓤 (C #core) (Core 𝓤 H A mem run)) (indexes : Triple 𝓤 (C #index) (Indexes 𝓤 H A mem run)) where
     abbrev reads : Reads
     reads = record { i = 9; w = 11; w′ = 12; p = 13; p′ = 14; r = 15 }
 
     abbrev stores : Stores
     stores = record { p = 18; p′ = 19 }
 
-    lent-on : Lends W C Λ fm D.the-row ℕ (shape W) (struct-loc W S.the-type S′.the-laws s (are .0)) n (are .1 .0) Ps (Bytes ∷ Slice) #core reads 10 stores lending (copies 2 Front ++ (copy (place 17 []) ∷ [])) (vals Front ++ (sliceVal (answer .ptr) (length (answer .now)) ∷ [])) pre
+    lent-on : Lends W C Λ fm mem run indexes D.the-row ℕ (shape W) (struct-loc W S.the-type S′.the-laws s (are .0)) n (are .1 .0) Ps (Bytes ∷ Slice) #core reads 10 stores lending (copies 2 Front ++ (copy (place 17 []) ∷ [])) (vals Front ++ (sliceVal (answer .ptr) (length (answer .now)) ∷ [])) pre
     lent-on m t ls i e w w′ p p′ r es x x′ Q Γ rest = (
       (λ go.
           -- the answer's local is taken out: [it; …; the other parameters; _17; …; _16; …]
@@ -267,13 +270,13 @@ module _ {M : Type 1} (𝓤 : URA M) (H : Heap 𝓤) (A : Atoms 𝓤) (W : Given
     walk : Sound h → ent 𝓤 (onEntry 𝓤 H A own.signature (κ, (κ₁, (κ₂, (κ₃, tt)))) (q, (q₁, (q₂, (q₃, tt)))) (record { ptr = (b, o); name = γ; now = h }, a) (vptr b o ∷ [], at κ₁ κ₂ κ₃ a)) (WpFn 𝓤 H C Λ code.function (vptr b o ∷ vals (Front ++ Last)) Post)
     unfolding maxRows
     walk sound =
-        in-place W C Λ fm D.the-row ℕ (shape W) (struct-loc W S.the-type S′.the-laws s (are .0)) n (are .1 .0) Ps (Bytes ∷ Slice) #core reads 10 stores lending (copies 2 Front ++ (copy (place 17 []) ∷ [])) (vals Front ++ (sliceVal (answer .ptr) (length (answer .now)) ∷ []))
+        in-place W C Λ fm mem run indexes D.the-row ℕ (shape W) (struct-loc W S.the-type S′.the-laws s (are .0)) n (are .1 .0) Ps (Bytes ∷ Slice) #core reads 10 stores lending (copies 2 Front ++ (copy (place 17 []) ∷ [])) (vals Front ++ (sliceVal (answer .ptr) (length (answer .now)) ∷ []))
         (λ m t ls i e w w′ p p′ r es x x′. ((refl, (refl, (refl, (refl, (refl, (refl, (refl, tt))))))), (refl, (refl, (refl, (refl, (refl, (refl, (refl, (refl, refl)))))))))) κ q b o γ h toks Own (‵ Uuid ⊛ ‵ Caps)
         pre (Core 𝓤 H A mem run .post to) lent-on (known to) asked (RowDone × List ℕ) (λ x. x .0) (λ x. toks ⊛ ‵ (finally u8 (answer .name) (x .1))) Says gives Post (exits sound) code.function refl refl
 
-meets : {M : Type 1} (𝓤 : URA M) (H : Heap 𝓤) (A : Atoms 𝓤) → Given 𝓤 H A → (mem : Memory → SProp 𝓤) (run : Routine → Fun 𝓤) (𝓣 : Tables 𝓤 H) → Triple 𝓤 (𝓣 .C #core) (Core 𝓤 H A mem run)
+meets : {M : Type 1} (𝓤 : URA M) (H : Heap 𝓤) (A : Atoms 𝓤) → Given 𝓤 H A → (mem : Memory → SProp 𝓤) (run : Routine → Fun 𝓤) (𝓣 : Tables 𝓤 H) → Triple 𝓤 (𝓣 .C #core) (Core 𝓤 H A mem run) → Triple 𝓤 (𝓣 .C #index) (Indexes 𝓤 H A mem run)
     → Meets 𝓤 H A own.signature (WpFn 𝓤 H (𝓣 .C) (𝓣 .Λ) code.function) (own.spec 𝓤 H A mem run)
-meets 𝓤 H A W mem run 𝓣 known =
+meets 𝓤 H A W mem run 𝓣 known indexes =
     walk-meets 𝓤 H A own.ended stayed W (
       goes-ref 𝓤 H A W 4 0 tt (plain (λ _. T.the-row)),
       (
@@ -294,7 +297,7 @@ meets 𝓤 H A W mem run 𝓣 known =
     (walked 𝓤 H A own.ended stayed (own.clauses 𝓤 H A mem run) (WpFn 𝓤 H (𝓣 .C) (𝓣 .Λ) code.function) (λ κs. (ptr-vals, spells (κs .1 .0) (κs .1 .1 .0) (κs .1 .1 .1 .0)))
     (λ κs. (mut-tells (named 0) (κs .0) T.the-row, (LL.tells S.the-type S′.the-laws, (LL.tells N.the-type N′.the-laws, (uint-tells w32, (uint-tells w32, (shr-slice-tells (named 1) (κs .1 .0) u8, (shr-slice-tells (named 2) (κs .1 .1 .0) u8, (mut-slice-tells (named 3) (κs .1 .1 .1 .0) u8, tt)))))))))
     (λ κs qs bounds a g are. needs 𝓤 (Sound (a .0 .now)) _
-    (walk 𝓤 H A W mem run (κs .0) (κs .1 .0) (κs .1 .1 .0) (κs .1 .1 .1 .0) (qs .0) (qs .1 .0) (qs .1 .1 .0) (qs .1 .1 .1 .0) (a .0 .ptr .0) (a .0 .ptr .1) (a .0 .name) (a .0 .now) (a .1) (are .1) (𝓣 .C) (𝓣 .Λ) (fmOf 𝓤 H (W .laws) 𝓣) known)))
+    (walk 𝓤 H A W mem run (κs .0) (κs .1 .0) (κs .1 .1 .0) (κs .1 .1 .1 .0) (qs .0) (qs .1 .0) (qs .1 .1 .0) (qs .1 .1 .1 .0) (a .0 .ptr .0) (a .0 .ptr .1) (a .0 .name) (a .0 .now) (a .1) (are .1) (𝓣 .C) (𝓣 .Λ) (fmOf 𝓤 H (W .laws) 𝓣) known indexes)))
 
 pub slipwattle-osc-spec : {M : Type 1} → stated.statement M
 unfolding code.routine tablesOf
@@ -302,4 +305,5 @@ slipwattle-osc-spec 𝓤 H 𝓜 𝓖 𝓡 =
     entered 𝓤 H (tripleOf 𝓤 H (𝓖 .A) own.signature (own.spec 𝓤 H (𝓖 .A) (𝓜 .mem) (𝓡 .run)))
     (tables 𝓤 H 𝓜 𝓡 code.env .C) (tables 𝓤 H 𝓜 𝓡 code.env .Λ) #own code.function (code.unfolded 𝓤 H 𝓜 𝓡)
     (meets 𝓤 H (𝓖 .A) (givenOf 𝓤 H 𝓜 𝓖) (𝓜 .mem) (𝓡 .run) (tablesOf 𝓤 H 𝓜 (tables 𝓤 H 𝓜 𝓡 code.env))
-    (cited 𝓤 H (Core 𝓤 H (𝓖 .A) (𝓜 .mem) (𝓡 .run)) 𝓜 𝓡 code.env #core core-def.routine code.calls-rows·osc (core-thm.met 𝓤 H 𝓜 𝓖 𝓡)))
+    (cited 𝓤 H (Core 𝓤 H (𝓖 .A) (𝓜 .mem) (𝓡 .run)) 𝓜 𝓡 code.env #core core-def.routine code.calls-rows·osc (core-thm.met 𝓤 H 𝓜 𝓖 𝓡))
+    (cited 𝓤 H (Indexes 𝓤 H (𝓖 .A) (𝓜 .mem) (𝓡 .run)) 𝓜 𝓡 code.env #index index-def.routine code.calls-rows·index (index-thm.met 𝓤 H 𝓜 𝓖 𝓡)))

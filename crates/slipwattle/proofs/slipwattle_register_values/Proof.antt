@@ -53,9 +53,12 @@ use Rattle.rows.proofs.register_values as core
 use Rattle.rows.proofs.register_values.Symbol as core-def
 use Rattle.rows.proofs.register_values.Symbol.{name as #core}
 use Rattle.rows.proofs.register_values.Met as core-thm
+use Rattle.rows.proofs.index.Symbol as index-def
+use Rattle.rows.proofs.index.Symbol.{name as #index}
+use Rattle.rows.proofs.index.Met as index-thm
 use Rattle.bridges.proofs.AtIndex.{index-outcome, table-kept}
 use Rattle.lent.proofs.RowIn.{mach}
-use Rattle.lent.proofs.RowSteps.{index}
+use Rattle.lent.proofs.RowSteps.{index, Indexes}
 use Rattle.lent.proofs.Params.{Loc, vals, struct-loc, slice-loc}
 use Rattle.lent.proofs.Ends.{asked, gives, ends}
 use Rattle.lent.proofs.Reading.{reading}
@@ -144,19 +147,19 @@ module _ {M : Type 1} (𝓤 : URA M) (H : Heap 𝓤) (A : Atoms 𝓤) (W : Given
       via 𝓤 _ (ends W toks Own κ q b o γ h (D.the-row .own d (v ∷ [])) _ (so h (a .0) (a .1 .0) (a .1 .1 .0 .now) (a .1 .1 .1 .0 .now) (a .1 .1 .1 .1 .0 .now) d sound e))
       (ends-at 𝓤 H A own.ended stayed (own.clauses 𝓤 H A mem run) W y v d (h, (tt, (tt, (tt, (tt, (tt, tt)))))) (tt, (tt, (tt, (tt, (tt, (tt, tt)))))))
 
-  module _ (C : Calls 𝓤 H) (Λ : Loops 𝓤 H) (fm : FmC 𝓤 H (W .laws) C) (known : Triple 𝓤 (C #core) (Core 𝓤 H A mem run)) where
+  module _ (C : Calls 𝓤 H) (Λ : Loops 𝓤 H) (fm : FmC 𝓤 H (W .laws) C) (known : Triple 𝓤 (C #core) (Core 𝓤 H A mem run)) (indexes : Triple 𝓤 (C #index) (Indexes 𝓤 H A mem run)) where
     walk : Sound h → ent 𝓤 (onEntry 𝓤 H A own.signature (κ, (κ₁, (κ₂, tt))) (q, (q₁, (q₂, tt))) (record { ptr = (b, o); name = γ; now = h }, a) (vptr b o ∷ [], at κ₁ κ₂ a))
         (WpFn 𝓤 H C Λ code.function (vptr b o ∷ LL.val S.the-type S′.the-laws (a .0) ∷ LL.val N.the-type N′.the-laws (a .1 .0) ∷ vals Slices) Post)
     unfolding maxRows
     walk sound =
-        reading W C Λ fm D.the-row D′.mir (λ d v is. LL.lawful D.the-type D′.the-laws 𝓤 H A W .typed d (v ∷ []) is .0) P₂ (a .1 .0) (are .1 .0) Slices #core (record { i = 7; w = 8; w′ = 9; p = 10; p′ = 11; r = 12 })
+        reading W C Λ fm mem run indexes D.the-row D′.mir (λ d v is. LL.lawful D.the-type D′.the-laws 𝓤 H A W .typed d (v ∷ []) is .0) P₂ (a .1 .0) (are .1 .0) Slices #core (record { i = 7; w = 8; w′ = 9; p = 10; p′ = 11; r = 12 })
         (λ l t ls i w w′ p p′ r. ((refl, (refl, (refl, (refl, (refl, tt))))), (refl, (refl, (refl, (refl, (refl, refl))))))) κ q b o γ h toks Own (‵ Own)
         (Core 𝓤 H A mem run .pre to) (Core 𝓤 H A mem run .post to) (known to) (asked W toks Own twice (emp 𝓤) (id⊢ 𝓤 _) (h .count) r)
         Values (λ d. d) (λ d. toks) Says (gives W toks Own D.the-row Ens Says said (Core 𝓤 H A mem run .post to) (λ v. id⊢ 𝓤 _)) Post (λ d v is. exits sound d v) code.function refl refl
 
-meets : {M : Type 1} (𝓤 : URA M) (H : Heap 𝓤) (A : Atoms 𝓤) → Given 𝓤 H A → (mem : Memory → SProp 𝓤) (run : Routine → Fun 𝓤) (𝓣 : Tables 𝓤 H) → Triple 𝓤 (𝓣 .C #core) (Core 𝓤 H A mem run)
+meets : {M : Type 1} (𝓤 : URA M) (H : Heap 𝓤) (A : Atoms 𝓤) → Given 𝓤 H A → (mem : Memory → SProp 𝓤) (run : Routine → Fun 𝓤) (𝓣 : Tables 𝓤 H) → Triple 𝓤 (𝓣 .C #core) (Core 𝓤 H A mem run) → Triple 𝓤 (𝓣 .C #index) (Indexes 𝓤 H A mem run)
     → Meets 𝓤 H A own.signature (WpFn 𝓤 H (𝓣 .C) (𝓣 .Λ) code.function) (own.spec 𝓤 H A mem run)
-meets 𝓤 H A W mem run 𝓣 known =
+meets 𝓤 H A W mem run 𝓣 known indexes =
     walk-meets 𝓤 H A own.ended stayed W (
       goes-ref 𝓤 H A W 3 0 tt (plain (λ _. T.the-row)),
       (
@@ -170,7 +173,7 @@ meets 𝓤 H A W mem run 𝓣 known =
     (own.clauses 𝓤 H A mem run) (WpFn 𝓤 H (𝓣 .C) (𝓣 .Λ) code.function) (WpFn-mono 𝓤 H (W .laws) 𝓣 code.function)
     (walked 𝓤 H A own.ended stayed (own.clauses 𝓤 H A mem run) (WpFn 𝓤 H (𝓣 .C) (𝓣 .Λ) code.function) (λ κs. (ptr-vals, spells (κs .1 .0) (κs .1 .1 .0)))
     (λ κs. (mut-tells (named 0) (κs .0) T.the-row, (LL.tells S.the-type S′.the-laws, (LL.tells N.the-type N′.the-laws, (shr-slice-tells (named 1) (κs .1 .0) u8, (shr-slice-tells (named 1) (κs .1 .0) u8, (shr-slice-tells (named 2) (κs .1 .1 .0) u32, tt)))))))
-    (λ κs qs bounds a g are. needs 𝓤 (Sound (a .0 .now)) _ (walk 𝓤 H A W mem run (κs .0) (κs .1 .0) (κs .1 .1 .0) (qs .0) (qs .1 .0) (qs .1 .1 .0) (a .0 .ptr .0) (a .0 .ptr .1) (a .0 .name) (a .0 .now) (a .1) (are .1) (𝓣 .C) (𝓣 .Λ) (fmOf 𝓤 H (W .laws) 𝓣) known)))
+    (λ κs qs bounds a g are. needs 𝓤 (Sound (a .0 .now)) _ (walk 𝓤 H A W mem run (κs .0) (κs .1 .0) (κs .1 .1 .0) (qs .0) (qs .1 .0) (qs .1 .1 .0) (a .0 .ptr .0) (a .0 .ptr .1) (a .0 .name) (a .0 .now) (a .1) (are .1) (𝓣 .C) (𝓣 .Λ) (fmOf 𝓤 H (W .laws) 𝓣) known indexes)))
 
 pub slipwattle-register-values-spec : {M : Type 1} → stated.statement M
 unfolding code.routine tablesOf
@@ -178,4 +181,5 @@ slipwattle-register-values-spec 𝓤 H 𝓜 𝓖 𝓡 =
     entered 𝓤 H (tripleOf 𝓤 H (𝓖 .A) own.signature (own.spec 𝓤 H (𝓖 .A) (𝓜 .mem) (𝓡 .run)))
     (tables 𝓤 H 𝓜 𝓡 code.env .C) (tables 𝓤 H 𝓜 𝓡 code.env .Λ) #own code.function (code.unfolded 𝓤 H 𝓜 𝓡)
     (meets 𝓤 H (𝓖 .A) (givenOf 𝓤 H 𝓜 𝓖) (𝓜 .mem) (𝓡 .run) (tablesOf 𝓤 H 𝓜 (tables 𝓤 H 𝓜 𝓡 code.env))
-    (cited 𝓤 H (Core 𝓤 H (𝓖 .A) (𝓜 .mem) (𝓡 .run)) 𝓜 𝓡 code.env #core core-def.routine code.calls-rows·register-values (core-thm.met 𝓤 H 𝓜 𝓖 𝓡)))
+    (cited 𝓤 H (Core 𝓤 H (𝓖 .A) (𝓜 .mem) (𝓡 .run)) 𝓜 𝓡 code.env #core core-def.routine code.calls-rows·register-values (core-thm.met 𝓤 H 𝓜 𝓖 𝓡))
+    (cited 𝓤 H (Indexes 𝓤 H (𝓖 .A) (𝓜 .mem) (𝓡 .run)) 𝓜 𝓡 code.env #index index-def.routine code.calls-rows·index (index-thm.met 𝓤 H 𝓜 𝓖 𝓡)))

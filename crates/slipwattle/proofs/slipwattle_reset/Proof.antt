@@ -52,9 +52,12 @@ use Rattle.rows.proofs.reset as core
 use Rattle.rows.proofs.reset.Symbol as core-def
 use Rattle.rows.proofs.reset.Symbol.{name as #core}
 use Rattle.rows.proofs.reset.Met as core-thm
+use Rattle.rows.proofs.index.Symbol as index-def
+use Rattle.rows.proofs.index.Symbol.{name as #index}
+use Rattle.rows.proofs.index.Met as index-thm
 use Rattle.bridges.proofs.AtIndex.{index-outcome, index-table}
 use Rattle.lent.proofs.RowIn.{mach}
-use Rattle.lent.proofs.RowSteps.{index}
+use Rattle.lent.proofs.RowSteps.{index, Indexes}
 use Rattle.lent.proofs.Params.{Loc, Param, struct, rows, spells, all-tell, at, stays, locs, twice, goes, vals, struct-loc, copies, copy-all, third, Fulls}
 use Rattle.lent.proofs.Ends.{asked, gives, ends}
 use Rattle.lent.proofs.InPlace.{in-place}
@@ -117,22 +120,22 @@ module _ {M : Type 1} (𝓤 : URA M) (H : Heap 𝓤) (A : Atoms 𝓤) (W : Given
       owned ! u8 (Is u8) (uint-makes 𝓤 H A W w8) (d .number) _ (LL.owed D.the-type D′.the-laws d (v ∷ []) is .0) $ move ! (1 ∷ 2 ∷ 3 ∷ 4 ∷ 5 ∷ 0 ∷ []) $
       by ! (via 𝓤 _ (ends W (‵ ftrue) Own κ q b o γ (h′ d) (u8 .own (d .number) (vint w8 (d .number) ∷ [])) _ (so h (a .0) (a .1 .0) d sound e)) (ends-at 𝓤 H A own.ended stayed (own.clauses 𝓤 H A mem run) W y (vint w8 (d .number)) (d .number) (h′ d, (tt, (tt, tt))) (tt, (tt, (tt, tt)))))
 
-  module _ (C : Calls 𝓤 H) (Λ : Loops 𝓤 H) (fm : FmC 𝓤 H (W .laws) C) (known : Triple 𝓤 (C #core) (Core 𝓤 H A mem run)) where
+  module _ (C : Calls 𝓤 H) (Λ : Loops 𝓤 H) (fm : FmC 𝓤 H (W .laws) C) (known : Triple 𝓤 (C #core) (Core 𝓤 H A mem run)) (indexes : Triple 𝓤 (C #index) (Indexes 𝓤 H A mem run)) where
     walk : Sound h → ent 𝓤 (onEntry 𝓤 H A own.signature (κ, tt) (q, tt) (record { ptr = (b, o); name = γ; now = h }, a) (vptr b o ∷ [], at Ps a)) (WpFn 𝓤 H C Λ code.function (vptr b o ∷ vals (locs 𝓤 H A W Ps a are)) Post)
     unfolding maxRows
     walk sound =
-        in-place W C Λ fm D.the-row ℕ (shape W) (struct-loc W S.the-type S′.the-laws (a .0) (are .0)) (a .1 .0) (are .1 .0) [] [] #core (record { i = 4; w = 6; w′ = 7; p = 8; p′ = 9; r = 10 }) 5 (record { p = 11; p′ = 12 }) (λ c. c) (copies 2 L) (vals L)
+        in-place W C Λ fm mem run indexes D.the-row ℕ (shape W) (struct-loc W S.the-type S′.the-laws (a .0) (are .0)) (a .1 .0) (are .1 .0) [] [] #core (record { i = 4; w = 6; w′ = 7; p = 8; p′ = 9; r = 10 }) 5 (record { p = 11; p′ = 12 }) (λ c. c) (copies 2 L) (vals L)
         (λ m t ls i e w w′ p p′ r es x x′. ((refl, (refl, tt)), (refl, (refl, (refl, (refl, (refl, (refl, (refl, (refl, refl)))))))))) κ q b o γ h (‵ ftrue) Own (‵ Own)
         (Core 𝓤 H A mem run .pre to) (Core 𝓤 H A mem run .post to) (λ m t ls i e w w′ p p′ r es x x′ Q Γ rest. ((λ s. s), third W (raw (Core 𝓤 H A mem run .pre to)) (‵ ftrue) (‵ (Fulls L ls)) (copy-all W L ls 2 (refl, (refl, tt)))))
         (known to) (asked W (‵ ftrue) Own (twice 𝓤 H A W Ps a) (emp 𝓤) (id⊢ 𝓤 _) (h .count) r)
         RowDone (λ d. d) (λ d. ‵ ftrue) (Said h (a .0) (a .1 .0)) (gives W (‵ ftrue) Own D.the-row Ens (Said h (a .0) (a .1 .0)) said (Core 𝓤 H A mem run .post to) (λ v. id⊢ 𝓤 _)) Post (exits sound) code.function refl refl
 
-meets : {M : Type 1} (𝓤 : URA M) (H : Heap 𝓤) (A : Atoms 𝓤) → Given 𝓤 H A → (mem : Memory → SProp 𝓤) (run : Routine → Fun 𝓤) (𝓣 : Tables 𝓤 H) → Triple 𝓤 (𝓣 .C #core) (Core 𝓤 H A mem run)
+meets : {M : Type 1} (𝓤 : URA M) (H : Heap 𝓤) (A : Atoms 𝓤) → Given 𝓤 H A → (mem : Memory → SProp 𝓤) (run : Routine → Fun 𝓤) (𝓣 : Tables 𝓤 H) → Triple 𝓤 (𝓣 .C #core) (Core 𝓤 H A mem run) → Triple 𝓤 (𝓣 .C #index) (Indexes 𝓤 H A mem run)
     → Meets 𝓤 H A own.signature (WpFn 𝓤 H (𝓣 .C) (𝓣 .Λ) code.function) (own.spec 𝓤 H A mem run)
-meets 𝓤 H A W mem run 𝓣 known =
+meets 𝓤 H A W mem run 𝓣 known indexes =
     walk-meets 𝓤 H A own.ended stayed W (goes-ref 𝓤 H A W 1 0 tt (plain (λ _. T.the-row)), goes 𝓤 H A W Ps) (own.clauses 𝓤 H A mem run) (WpFn 𝓤 H (𝓣 .C) (𝓣 .Λ) code.function) (WpFn-mono 𝓤 H (W .laws) 𝓣 code.function)
     (walked 𝓤 H A own.ended stayed (own.clauses 𝓤 H A mem run) (WpFn 𝓤 H (𝓣 .C) (𝓣 .Λ) code.function) (λ κs. (ptr-vals, spells Ps)) (λ κs. (mut-tells (named 0) (κs .0) T.the-row, all-tell Ps))
-    (λ κs qs bounds a g are. needs 𝓤 (Sound (a .0 .now)) _ (walk 𝓤 H A W mem run (κs .0) (qs .0) (a .0 .ptr .0) (a .0 .ptr .1) (a .0 .name) (a .0 .now) (a .1) (are .1) (𝓣 .C) (𝓣 .Λ) (fmOf 𝓤 H (W .laws) 𝓣) known)))
+    (λ κs qs bounds a g are. needs 𝓤 (Sound (a .0 .now)) _ (walk 𝓤 H A W mem run (κs .0) (qs .0) (a .0 .ptr .0) (a .0 .ptr .1) (a .0 .name) (a .0 .now) (a .1) (are .1) (𝓣 .C) (𝓣 .Λ) (fmOf 𝓤 H (W .laws) 𝓣) known indexes)))
 
 pub slipwattle-reset-spec : {M : Type 1} → stated.statement M
 unfolding code.routine tablesOf
@@ -140,4 +143,5 @@ slipwattle-reset-spec 𝓤 H 𝓜 𝓖 𝓡 =
     entered 𝓤 H (tripleOf 𝓤 H (𝓖 .A) own.signature (own.spec 𝓤 H (𝓖 .A) (𝓜 .mem) (𝓡 .run)))
     (tables 𝓤 H 𝓜 𝓡 code.env .C) (tables 𝓤 H 𝓜 𝓡 code.env .Λ) #own code.function (code.unfolded 𝓤 H 𝓜 𝓡)
     (meets 𝓤 H (𝓖 .A) (givenOf 𝓤 H 𝓜 𝓖) (𝓜 .mem) (𝓡 .run) (tablesOf 𝓤 H 𝓜 (tables 𝓤 H 𝓜 𝓡 code.env))
-    (cited 𝓤 H (Core 𝓤 H (𝓖 .A) (𝓜 .mem) (𝓡 .run)) 𝓜 𝓡 code.env #core core-def.routine code.calls-rows·reset (core-thm.met 𝓤 H 𝓜 𝓖 𝓡)))
+    (cited 𝓤 H (Core 𝓤 H (𝓖 .A) (𝓜 .mem) (𝓡 .run)) 𝓜 𝓡 code.env #core core-def.routine code.calls-rows·reset (core-thm.met 𝓤 H 𝓜 𝓖 𝓡))
+    (cited 𝓤 H (Indexes 𝓤 H (𝓖 .A) (𝓜 .mem) (𝓡 .run)) 𝓜 𝓡 code.env #index index-def.routine code.calls-rows·index (index-thm.met 𝓤 H 𝓜 𝓖 𝓡)))
