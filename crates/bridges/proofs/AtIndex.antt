@@ -24,6 +24,11 @@ absent-number bridges s n b report e = rw e
 absent-number bridges s n b (address bus device function offset width) e = rw e
 absent-number bridges s n b (registerValues slot block current) e = rw e
 
+-- a call changes nothing of a row but what it holds
+row-held : (k : ℕ) (b : Bridge) (o : Operation) → withHolding b (holding (bridgeBy k b o)) ≡ bridgeBy k b o
+row-held zero b o = refl
+row-held (suc k) b o = refl
+
 module _ (t : Table) (rows : ℕ) (few : t .count ≤ rows) (s : SessionNumber) (n : BridgeNumber) (o : Operation) where
   abbrev index : ℕ
   index = n .0 % rows
@@ -53,6 +58,12 @@ module _ (t : Table) (rows : ℕ) (few : t .count ≤ rows) (s : SessionNumber) 
 
       out : t .count ≤ n .0 → withBridge t index (rowAfter (t .count) s n (bridgeAt t index) o) ≡ withBridge t (n .0) (rowAfter (t .count) s n (bridgeAt t (n .0)) o)
       out h = kept index h ∙ sym (kept (n .0) h)
+
+  -- the same where only what the row holds is stored
+  pub index-held : (y : Bridge) → y ≡ rowAfter (t .count) s n (bridgeAt t index) o → withBridge t index (withHolding (bridgeAt t index) (holding y)) ≡ step t (on s n o) .table
+  index-held y e =
+      ap (λ (x : Bridge). withBridge t index (withHolding (bridgeAt t index) (holding x))) e
+      ∙ ap (withBridge t index) (row-held (numberAt (t .count) s n (bridgeAt t index) o) (bridgeAt t index) o) ∙ index-table
 
   -- an operation that leaves what the bridge holds leaves the table
   pub table-kept : ((b : Bridge) → after b o ≡ holding b) → t ≡ step t (on s n o) .table

@@ -1,6 +1,6 @@
 -- The statements of a call on the lent table that touch its row, each list once for every such call and any environment that has the locals.
 --     row-copied       `let i = rows::index(n);` then the operands `t.count` and `t.bridges[i]`: the borrow is opened, the count and the row are copied, and it is closed
---     row-stored       `t.bridges[i] = done.row;`: the borrow is opened, the row stored, and it is closed
+--     row-stored       `t.bridges[i].held = done.row.held; t.bridges[i].supported = done.row.supported;`: the borrow is opened, the two stored, and it is closed
 -- The lemmas assume `Given`.
 use mathlib.Core.Path.{_≡_, refl, ap, _∙_}
 use Prim.Native.Nat.{ℕ, _%_, _*_, _<_, _^_}
@@ -21,8 +21,8 @@ use ghost.Atoms.{Atoms, sem}
 use contract.Monad.{Fun, fact}
 use sound.WpLaws.{FmC}
 use types.Kit.{Given, Item, Sq, Post, runs, ‵, raw, _⊛_, some, later, _$_, _∵_, !, qed, move, drop, use1, split, join, pick, await, fjoin, fpack, rewrite, frame, done}
-use types.Run.{look, look-raw, store, store-raw, init, forget, stop, hop, fld, load, lit, of-opd, bin, addr, and-then, no-more, assigns, land}
-use types.Part.{whole, sub, look-in}
+use types.Run.{look, look-raw, store, init, forget, stop, hop, fld, load, lit, of-opd, bin, addr, and-then, no-more, assigns, land}
+use types.Part.{whole, sub, look-in, store-in}
 use types.SemTy.{Body}
 use types.Mut.{close-ref}
 use denote.Laws.{Is, shows}
@@ -37,7 +37,7 @@ use denote.Triple.Statement.{Contract, Triple}
 use denote.Struct.Steps.{spelt}
 use denote.Struct.Laws as LL
 use Rattle.rules.specs.Limits.{maxRows}
-use Rattle.rules.specs.Tables.{bridgeAt, withBridge}
+use Rattle.rules.specs.Tables.{holding, withHolding, bridgeAt, withBridge}
 use Rattle.rules.specs.declared.Table.{Table}
 use Rattle.rules.specs.declared.Bridge.{Bridge}
 use Rattle.rules.specs.declared.BridgeNumber.{BridgeNumber}
@@ -84,10 +84,12 @@ pub record Reads : Type 0 where
   pub p′ : ℕ
   pub r : ℕ
 
--- the pointers of the store
+-- the pointers of the two stores
 pub record Stores : Type 0 where
   pub p : ℕ
   pub p′ : ℕ
+  pub q : ℕ
+  pub q′ : ℕ
 
 -- the statements before the call on the row, with what follows them
 abbrev pub copying : Reads → Code → Code
@@ -99,13 +101,17 @@ copying k rest =
     (seq (assign (place (k .p′) []) (op2 offset (copy (place (k .p) [])) (copy (place (k .w′) []))))
     (seq (assign (place (k .r) []) (rvOpd (copy (place (k .p′) (deref B′.mir ∷ []))))) rest)))))
 
--- the statements after it, where what came back stands in local d
+-- one field of the row stored, where what came back stands in local d: its field 1 is a row
+abbrev pub field-storing : Reads → (w p p′ f d : ℕ) → Code → Code
+field-storing k w p p′ f d rest =
+    seq (assign (place w []) (op2 (mul unsigned) (copy (place (k .i) [])) (int w64 size)))
+    (seq (assign (place p []) (addrOf (place 1 (deref T′.mir ∷ field 0 ∷ []))))
+    (seq (assign (place p′ []) (op2 offset (copy (place p [])) (copy (place w []))))
+    (seq (assign (place p′ (deref B′.mir ∷ field f ∷ [])) (rvOpd (copy (place d (field 1 ∷ field f ∷ []))))) rest)))
+
+-- the statements after the call: fields 2 and 3, the held and the supported bits
 abbrev pub storing : Reads → ℕ → Stores → Code → Code
-storing k d l rest =
-    seq (assign (place (k .w) []) (op2 (mul unsigned) (copy (place (k .i) [])) (int w64 size)))
-    (seq (assign (place (l .p) []) (addrOf (place 1 (deref T′.mir ∷ field 0 ∷ []))))
-    (seq (assign (place (l .p′) []) (op2 offset (copy (place (l .p) [])) (copy (place (k .w) []))))
-    (seq (assign (place (l .p′) (deref B′.mir ∷ [])) (rvOpd (copy (place d (field 1 ∷ []))))) rest)))
+storing k d l rest = field-storing k (k .w) (l .p) (l .p′) 2 d (field-storing k (k .w′) (l .q) (l .q′) 3 d rest)
 
 -- where the locals lie: the reference, the bridge number, i, two words, two pointers, the row
 pub record Blocks : Type 0 where
@@ -118,14 +124,24 @@ pub record Blocks : Type 0 where
   pub p′ : ℕ
   pub r : ℕ
 
--- where those of the store lie: the reference, what came back, i, a word, two pointers
+-- where those of the stores lie: the reference, what came back, i, two words, four pointers
 pub record Blocks′ : Type 0 where
   pub t : ℕ
   pub d : ℕ
   pub i : ℕ
   pub w : ℕ
+  pub w′ : ℕ
   pub p : ℕ
   pub p′ : ℕ
+  pub q : ℕ
+  pub q′ : ℕ
+
+-- the row with the bits that another has is one of the table's rows
+stored-is : (r y : Bridge) → Is B.the-row r (mach r ∷ []) → Is B.the-row y (mach y ∷ []) → Is B.the-row (withHolding r (holding y)) (mach (withHolding r (holding y)) ∷ [])
+stored-is r y is-r is-y =
+    let old = LL.owed B.the-type B′.the-laws r _ is-r in
+    let new = LL.owed B.the-type B′.the-laws y _ is-y in
+    LL.owes B.the-type B′.the-laws (withHolding r (holding y)) (old .0, (old .1 .0, (new .1 .1 .0, (new .1 .1 .1 .0, old .1 .1 .1 .1))))
 
 module _ {M : Type 1} {𝓤 : URA M} {H : Heap 𝓤} {A : Atoms 𝓤} (W : Given 𝓤 H A) (C : Calls 𝓤 H) (Λ : Loops 𝓤 H) (E : Env 𝓤 H) (Q : Post 𝓤 H) (κ : Lft) (q : Share) (b o : ℕ) (γ : GName) (h : Table)
     (n : BridgeNumber) (k : Reads) where
@@ -201,31 +217,43 @@ module _ {M : Type 1} {𝓤 : URA M} {H : Heap 𝓤} {A : Atoms 𝓤} (W : Given
     abbrev done-ty : Ty
     done-ty = tyStruct name (tcons ty (tcons B′.mir tnil))
 
+    -- the row that is stored
+    abbrev pub stored : Bridge
+    stored = withHolding (bridgeAt h (index n)) (holding y)
+
     abbrev pub Placed′ : Blocks′ → Type 0
-    Placed′ m = Has 1 (ref-ty, m .t) × (Has d (done-ty, m .d) × (Has (k .i) (word, m .i) × (Has (k .w) (word, m .w) × (Has (l .p) (tyPtr, m .p) × Has (l .p′) (tyPtr, m .p′)))))
+    Placed′ m =
+        Has 1 (ref-ty, m .t) × (Has d (done-ty, m .d) × (Has (k .i) (word, m .i) × (Has (k .w) (word, m .w) × (Has (k .w′) (word, m .w′) × (Has (l .p) (tyPtr, m .p) × (Has (l .p′) (tyPtr, m .p′) × (Has (l .q) (tyPtr, m .q) × Has (l .q′) (tyPtr, m .q′))))))))
 
     abbrev returned : Blocks′ → List (Item 𝓤) → List (Item 𝓤)
     returned m Γ = ‵ (fat fullShare ref-ty (m .t) 0 (vptr b o)) ∷ ‵ (fat fullShare done-ty (m .d) 0 (vstruct (vcons v (vcons (mach y) vnil)))) ∷ Γ
 
     abbrev pub before′ : Blocks′ → Val → List (Item 𝓤) → List (Item 𝓤)
-    before′ m u Γ = returned m (‵ (fat fullShare word (m .i) 0 (vint w64 (index n))) ∷ ‵ (fat fullShare word (m .w) 0 u) ∷ ‵ (froom tyPtr (m .p) 0) ∷ ‵ (froom tyPtr (m .p′) 0) ∷ lends h Γ)
+    before′ m u Γ =
+        returned m (‵ (fat fullShare word (m .i) 0 (vint w64 (index n))) ∷ ‵ (fat fullShare word (m .w) 0 u) ∷ ‵ (froom word (m .w′) 0) ∷ ‵ (froom tyPtr (m .p) 0) ∷ ‵ (froom tyPtr (m .p′) 0) ∷ ‵ (froom tyPtr (m .q) 0) ∷ ‵ (froom tyPtr (m .q′) 0) ∷ lends h Γ)
 
     abbrev pub after′ : Blocks′ → List (Item 𝓤) → List (Item 𝓤)
-    after′ m Γ = returned m (‵ (froom word (m .i) 0) ∷ ‵ (froom word (m .w) 0) ∷ ‵ (froom tyPtr (m .p) 0) ∷ ‵ (froom tyPtr (m .p′) 0) ∷ lends (withBridge h (index n) y) Γ)
+    after′ m Γ =
+        returned m (‵ (froom word (m .i) 0) ∷ ‵ (froom word (m .w) 0) ∷ ‵ (froom word (m .w′) 0) ∷ ‵ (froom tyPtr (m .p) 0) ∷ ‵ (froom tyPtr (m .p′) 0) ∷ ‵ (froom tyPtr (m .q) 0) ∷ ‵ (froom tyPtr (m .q′) 0) ∷ lends (withBridge h (index n) stored) Γ)
 
     pub row-stored : (m : Blocks′) → Placed′ m → Is B.the-row y (mach y ∷ []) → (u : Val) {Γ : List (Item 𝓤)} {rest : Code}
         → Sq W (after′ m Γ) (runs C Λ E rest Q) → Sq W (before′ m u Γ) (runs C Λ E (storing k d l rest) Q)
     unfolding partOf maxRows
-    row-stored m (at-t, (at-d, (at-i, (at-w, (at-p, at-p′))))) is-y u go =
-        -- [the reference; what came back; i; w; p; p′; the borrow]
+    row-stored m (at-t, (at-d, (at-i, (at-w, (at-w′, (at-p, (at-p′, (at-q, at-q′)))))))) is-y u go =
+        let bits = LL.owed B.the-type B′.the-laws y _ is-y in
+        -- the row's place: [the reference; what came back; i; w; w′; p; p′; q; q′; the borrow]
         assigns ! (bin ! (load ! (finds W at-i (stop !)) (look ! 2 refl)) (lit ! tt) (record { fits = fits-place n })) (finds W at-w (stop !)) (store ! 3 refl (tt, record { fits = fits-place n })) $
-        assigns ! (addr ! (finds W at-t (hop ! (look ! 0 refl) (fld ! refl (stop !))))) (finds W at-p (stop !)) (init ! 4 refl (tt, tt)) $
-        assigns ! (bin ! (load ! (finds W at-p (stop !)) (look ! 4 refl)) (load ! (finds W at-w (stop !)) (look ! 3 refl)) tt) (finds W at-p′ (stop !)) (init ! 5 refl (tt, tt)) $
-        move ! (6 ∷ 7 ∷ 8 ∷ []) $ opens ! tt T.the-row {h = h} b o (λ us. fjoin ! $ fpack ! (List Val) (λ vs. fsep (cellAt fullShare (T.the-row .mir) vs b o) (T.the-row .own h vs)) us $
-        -- [the table; the open borrow; obs; auth; the reference; what came back; i; w; p; p′]
-        row-out ! h (index n) b o y (index-in n) (λ _.
-        -- [the row; the way back; what it owns; the open borrow; obs; auth; the reference; what came back; i; w; p; p′]
-        assigns ! (of-opd ! (load ! (finds W at-d (fld ! refl (stop !))) (look-in ! 7 (sub ! 1 refl (whole !))))) (finds W at-p′ (hop ! (look ! 11 refl) (stop !))) (store-raw ! 0 refl (LL.lawful B.the-type B′.the-laws 𝓤 H A W .typed y _ is-y .0)) $
-        move ! (2 ∷ []) $ drop ! $ owned ! B.the-row (Is B.the-row) (LL.makes B.the-type B′.the-plain 𝓤 H A) y _ is-y $ move ! (1 ∷ 2 ∷ 0 ∷ []) $ row-in ! h (index n) b o y $
-        close-ref ! tt (mem T.the-row) (withBridge h (index n) y) {b = b} {o = o} $
-        forget ! 5 refl $ forget ! 6 refl $ forget ! 7 refl $ forget ! 8 refl $ move ! (3 ∷ 4 ∷ 5 ∷ 6 ∷ 7 ∷ 8 ∷ []) $ go))
+        assigns ! (addr ! (finds W at-t (hop ! (look ! 0 refl) (fld ! refl (stop !))))) (finds W at-p (stop !)) (init ! 5 refl (tt, tt)) $
+        assigns ! (bin ! (load ! (finds W at-p (stop !)) (look ! 5 refl)) (load ! (finds W at-w (stop !)) (look ! 3 refl)) tt) (finds W at-p′ (stop !)) (init ! 6 refl (tt, tt)) $
+        -- the borrow is opened, and the row taken out: [the row; the way back; what it owns; the open borrow; obs; auth; the reference; what came back; i; w; w′; p; p′; q; q′]
+        move ! (9 ∷ 10 ∷ 11 ∷ []) $ opens ! tt T.the-row {h = h} b o (λ us. fjoin ! $ fpack ! (List Val) (λ vs. fsep (cellAt fullShare (T.the-row .mir) vs b o) (T.the-row .own h vs)) us $
+        row-out ! h (index n) b o stored (index-in n) (λ is-r.
+        assigns ! (of-opd ! (load ! (finds W at-d (fld ! refl (fld ! refl (stop !)))) (look-in ! 7 (sub ! 2 refl (sub ! 1 refl (whole !)))))) (finds W at-p′ (hop ! (look ! 12 refl) (fld ! refl (stop !)))) (store-in ! 0 (sub ! 2 refl (whole !)) (tt, record { fits = bits .1 .1 .0 .1 })) $
+        assigns ! (bin ! (load ! (finds W at-i (stop !)) (look ! 8 refl)) (lit ! tt) (record { fits = fits-place n })) (finds W at-w′ (stop !)) (init ! 10 refl (tt, record { fits = fits-place n })) $
+        assigns ! (addr ! (finds W at-t (hop ! (look ! 6 refl) (fld ! refl (stop !))))) (finds W at-q (stop !)) (init ! 13 refl (tt, tt)) $
+        assigns ! (bin ! (load ! (finds W at-q (stop !)) (look ! 13 refl)) (load ! (finds W at-w′ (stop !)) (look ! 10 refl)) tt) (finds W at-q′ (stop !)) (init ! 14 refl (tt, tt)) $
+        assigns ! (of-opd ! (load ! (finds W at-d (fld ! refl (fld ! refl (stop !)))) (look-in ! 7 (sub ! 3 refl (sub ! 1 refl (whole !)))))) (finds W at-q′ (hop ! (look ! 14 refl) (fld ! refl (stop !)))) (store-in ! 0 (sub ! 3 refl (whole !)) (tt, record { fits = bits .1 .1 .1 .0 .1 })) $
+        -- the borrow is closed
+        move ! (2 ∷ []) $ drop ! $ owned ! B.the-row (Is B.the-row) (LL.makes B.the-type B′.the-plain 𝓤 H A) stored _ (stored-is (bridgeAt h (index n)) y is-r is-y) $ move ! (1 ∷ 2 ∷ 0 ∷ []) $ row-in ! h (index n) b o stored $
+        close-ref ! tt (mem T.the-row) (withBridge h (index n) stored) {b = b} {o = o} $
+        forget ! 5 refl $ forget ! 6 refl $ forget ! 7 refl $ forget ! 8 refl $ forget ! 9 refl $ forget ! 10 refl $ forget ! 11 refl $ move ! (3 ∷ 4 ∷ 5 ∷ 6 ∷ 7 ∷ 8 ∷ 9 ∷ 10 ∷ 11 ∷ []) $ go))
