@@ -1,7 +1,7 @@
 -- An array in a local's memory, of which the first n elements are lent.
 --     take-min     the first of a list, however many are asked for
 --     rest         the elements after the first n.        cuts, glues      the first n elements of a row in memory, apart from the rest, and back
---     into-memory  an array in a local's memory as a row of elements.        room-back        the local's room of it again
+--     into-memory  an array in a local's memory as a row of elements.        out-of-memory, room-back     the local's cell of it again, and its room
 -- `take-min` assumes nothing, the others assume `Given`.
 use mathlib.Core.Path.{_≡_, refl, sym, ap, _∙_}
 use mathlib.Core.Bool.{Bool, true, false}
@@ -20,7 +20,7 @@ use base.Logic.{ent, sep}
 use base.Fml.{Fml, Share, ftrue, fsep, fat, froom}
 use prog.Wp.{Heap}
 use ghost.Atoms.{Atoms, sem}
-use types.Kit.{Given, ‵, _⊛_, _$_, _∵_, !, qed, by, move, use1, use2, drop, split, fsplit, fjoin, fpick, fpack, done}
+use types.Kit.{Given, ‵, _⊛_, _$_, _∵_, !, qed, by, move, use1, use2, drop, split, fsplit, fjoin, fpick, fpack, frame, done}
 use types.Share.{arr-parts}
 use denote.RattleType.{RattleType}
 use denote.Laws.{Is, Tells, shows}
@@ -28,7 +28,7 @@ use denote.Memory.{cellAt, lone, partAt, partOf, mem, shares}
 use denote.Array.{Array, array-vals, array-tells}
 use denote.ArrayMemory.{Single, array-apart, array-whole}
 use denote.Index.{row}
-use denote.Steps.{nothing}
+use denote.Steps.{only, nothing}
 use denote.Struct.Steps.{spelt}
 
 pub take-min : {A : Type 0} (l : List A) (c k : ℕ) → length l ≡ k → take (min c k) l ≡ take c l
@@ -70,11 +70,17 @@ module _ (R : RattleType) (n : ℕ) {M : Type 1} (𝓤 : URA M) (H : Heap 𝓤) 
       use1 W (‵ (cellAt fullShare (Array R n .mir) (v ∷ []) l 0)) (W .laws .at-raw fullShare (lone (Array R n .mir)) l 0 v) $ fjoin ! $
       fpack ! (List Val) (λ vs. fsep (cellAt fullShare (Array R n .mir) vs l 0) (Array R n .own xs vs)) (v ∷ []) $ by ! (array-apart 𝓤 H A W R fullShare s n xs l 0)
 
-  -- and back, as room
-  pub room-back : (vals : R .Denot → List Val) → Tells R (Is R) vals → ent 𝓤 (sem 𝓤 H A (arr-parts (shares R) n .part fullShare xs l 0)) (H .room (lone (Array R n .mir)) l 0)
+  -- and back
+  pub out-of-memory : (vals : R .Denot → List Val) → Tells R (Is R) vals
+      → ent 𝓤 (sem 𝓤 H A (arr-parts (shares R) n .part fullShare xs l 0)) (sep 𝓤 (H .at fullShare (lone (Array R n .mir)) l 0 (only (array-vals vals xs))) (sem 𝓤 H A (Array R n .own xs (array-vals vals xs))))
   unfolding partOf
-  room-back vals tl =
+  out-of-memory vals tl =
       qed W (‵ (arr-parts (shares R) n .part fullShare xs l 0) ∷ []) ∵ use1 W (‵ (partAt (Array R n) fullShare xs l 0)) (array-whole 𝓤 H A W R fullShare n xs l 0) $
       fpick ! (λ vs. fsplit ! $ spelt ! (Array R n) (Is (Array R n)) (shows 𝓤 H A (Array R n)) (array-vals vals) (array-tells R vals tl n) fullShare xs vs l 0 $
-      use1 W (‵ (fat fullShare (lone (Array R n .mir)) l 0 _)) (W .laws .raw-at fullShare (lone (Array R n .mir)) l 0 _) $
-      use1 W (‵ (froom (lone (Array R n .mir)) l 0)) (W .laws .at-room (lone (Array R n .mir)) l 0 _) $ move ! (1 ∷ []) $ drop ! $ done !)
+      use1 W (‵ (fat fullShare (lone (Array R n .mir)) l 0 (only (array-vals vals xs)))) (W .laws .raw-at fullShare (lone (Array R n .mir)) l 0 (only (array-vals vals xs))) $ frame ! $ done !)
+
+  -- and back, as room
+  pub room-back : (vals : R .Denot → List Val) → Tells R (Is R) vals → ent 𝓤 (sem 𝓤 H A (arr-parts (shares R) n .part fullShare xs l 0)) (H .room (lone (Array R n .mir)) l 0)
+  room-back vals tl =
+      qed W (‵ (arr-parts (shares R) n .part fullShare xs l 0) ∷ []) ∵ use1 W (‵ (fat fullShare (lone (Array R n .mir)) l 0 (only (array-vals vals xs))) ⊛ ‵ (Array R n .own xs (array-vals vals xs))) (out-of-memory vals tl) $
+      split ! $ use1 W (‵ (froom (lone (Array R n .mir)) l 0)) (W .laws .at-room (lone (Array R n .mir)) l 0 (only (array-vals vals xs))) $ move ! (1 ∷ []) $ drop ! $ done !

@@ -1,4 +1,4 @@
--- Start row by row: the first i rows of a list are sound, apart and in the table; one more row; the whole list.
+-- Start row by row: the first i rows of a list are sound, apart and in their places; one more row; the whole list.
 -- It serves any loop that admits the rows of a list one after the other.
 -- Assumes nothing.
 use Prim.Native.Nat.{ℕ, _+_, _≤_, _<_}
@@ -8,23 +8,22 @@ use mathlib.Core.List.{List, [], _∷_, _++_, map}
 use native.Mathlib.Numerals.{add-one}
 use native.Mathlib.Omega.{arith}
 use lib.Dec.{leb}
-use lib.ListN.{length, take, getD, set, length-map, length-append}
+use lib.ListN.{length, take, getD, set, length-map}
 use lib.Seq.{take-suc, take-all, length-take-le}
 use borrow.Author.Tests.{le-leb, lt-leb, leb-true, leb-false}
 use Rattle.rules.specs.Limits.{maxRows}
 use Rattle.rules.specs.Lists.{every, pairwise, padded}
 use Rattle.rules.specs.Refusals.{_if_, firstOf}
 use Rattle.rules.specs.Mcfg.{entries, mcfgSound}
-use Rattle.rules.specs.Tables.{noBridge, bridgesOf}
+use Rattle.rules.specs.Tables.{noBridge}
 use Rattle.rules.specs.Start.{StartInput, rowSound, rowsApart, rowsSound, bridgeOf, tableOf, startNumber, startTable}
 use Rattle.rules.specs.declared.Bridge.{Bridge}
 use Rattle.rules.specs.declared.BridgeRow.{BridgeRow}
 use Rattle.rules.specs.declared.Entry.{Entry}
-use Rattle.rules.specs.declared.Table.{Table}
 use Rattle.rules.proofs.Tests.{and-l, and-r, and-is, fails}
 use Rattle.mcfg.proofs.Heads.{shuffle}
-use Rattle.start.specs.Admission.{bridgeApart, admissible, firstNumber, withNext}
-use Rattle.start.proofs.Listing.{every-snoc, pairwise-snoc, padded-snoc, every-take, pairwise-take, padded-take, every-map, map-snoc}
+use Rattle.start.specs.Admission.{firstNumber}
+use Rattle.start.proofs.Listing.{every-snoc, pairwise-snoc, padded-snoc, every-take, pairwise-take, map-snoc}
 
 -- ---- one row more
 
@@ -37,86 +36,76 @@ module _ (q : Bool) (n : ℕ) (is : n ≡ cond q 0 7) where
       go true e = refl
       go false e = absurd (omega arith)
 
-  pub rejected : (n ≡ 0 → ⊥) → q ≡ false
+  pub rejected : (n ≡ 0 → ⊥) → (q ≡ false) × (n ≡ 7)
   rejected z = go q is
     where
-      go : (p : Bool) → n ≡ cond {A = ℕ} p 0 7 → p ≡ false
+      go : (p : Bool) → n ≡ cond {A = ℕ} p 0 7 → (p ≡ false) × (n ≡ 7)
       go true e = absurd (z e)
-      go false e = refl
+      go false e = (refl, e)
 
 module _ (es : List Entry) where
   -- each row is sound, and each pair apart
   abbrev pub rowsGood : List BridgeRow → Bool
   rowsGood rows = every (rowSound es) rows && pairwise rowsApart rows
 
-  -- the table of these rows
-  abbrev pub tableOfRows : List BridgeRow → Table
-  tableOfRows rows = tableOf (map (bridgeOf es) rows)
+  -- the places of the table of these rows
+  abbrev placesOf : List BridgeRow → List Bridge
+  placesOf rows = padded noBridge maxRows (map (bridgeOf es) rows)
+
+  -- the row is sound, and apart from the rows before it
+  abbrev pub admissible : List BridgeRow → BridgeRow → Bool
+  admissible rows r = rowSound es r && every (λ (q : BridgeRow). rowsApart q r) rows
 
   module _ (rows : List BridgeRow) (r : BridgeRow) where
-    -- the bridges so far, against the row, are the rows so far
-    admissible-is : length rows ≤ maxRows → admissible es (tableOfRows rows) r ≡ (rowSound es r && every (λ (q : BridgeRow). rowsApart q r) rows)
-    unfolding admissible
-    admissible-is few = ap (λ (t : Bool). rowSound es r && t) (ap (every (bridgeApart r)) held ∙ every-map (bridgeOf es) (bridgeApart r) rows)
-      where
-        held : bridgesOf (tableOfRows rows) ≡ map (bridgeOf es) rows
-        held = padded-take noBridge maxRows (map (bridgeOf es) rows) (rw (length-map rows (bridgeOf es)) few)
-
-    one-more : length rows ≤ maxRows → rowsGood (rows ++ r ∷ []) ≡ (rowsGood rows && admissible es (tableOfRows rows) r)
-    one-more few =
-        rw (admissible-is few, every-snoc (rowSound es) rows r, pairwise-snoc rowsApart rows r)
+    one-more : rowsGood (rows ++ r ∷ []) ≡ (rowsGood rows && admissible rows r)
+    one-more =
+        rw (every-snoc (rowSound es) rows r, pairwise-snoc rowsApart rows r)
         (shuffle (every (rowSound es) rows) (rowSound es r) (pairwise rowsApart rows) (every (λ (q : BridgeRow). rowsApart q r) rows))
 
-    table-more : length rows < maxRows → withNext (tableOfRows rows) (length rows) (bridgeOf es r) ≡ tableOfRows (rows ++ r ∷ [])
-    table-more room = sym whole
+    placed-more : length rows < maxRows → set (placesOf rows) (length rows) (bridgeOf es r) ≡ placesOf (rows ++ r ∷ [])
+    placed-more room = rw (map-snoc (bridgeOf es) rows r) (sym stored)
       where
         n : length (map (bridgeOf es) rows) ≡ length rows
         n = length-map rows (bridgeOf es)
 
-        stored : padded noBridge maxRows (map (bridgeOf es) rows ++ bridgeOf es r ∷ []) ≡ set (padded noBridge maxRows (map (bridgeOf es) rows)) (length rows) (bridgeOf es r)
-        stored = padded-snoc noBridge maxRows (map (bridgeOf es) rows) (bridgeOf es r) (rw n room) ∙ ap (λ (k : ℕ). set (padded noBridge maxRows (map (bridgeOf es) rows)) k (bridgeOf es r)) n
+        stored : padded noBridge maxRows (map (bridgeOf es) rows ++ bridgeOf es r ∷ []) ≡ set (placesOf rows) (length rows) (bridgeOf es r)
+        stored = padded-snoc noBridge maxRows (map (bridgeOf es) rows) (bridgeOf es r) (rw n room) ∙ ap (λ (k : ℕ). set (placesOf rows) k (bridgeOf es r)) n
 
-        counted : length (map (bridgeOf es) rows ++ bridgeOf es r ∷ []) ≡ length rows + 1
-        counted = length-append (map (bridgeOf es) rows) (bridgeOf es r ∷ []) ∙ ap (λ (k : ℕ). k + 1) n
-
-        whole : tableOfRows (rows ++ r ∷ []) ≡ withNext (tableOfRows rows) (length rows) (bridgeOf es r)
-        whole = rw (map-snoc (bridgeOf es) rows r) (ap₂ (λ (l : List Bridge) (k : ℕ). record { bridges = l; count = k }) stored counted)
-
-  -- the first i rows of a list are sound, apart and in the table
-  pub record Listed (rows : List BridgeRow) (i : ℕ) (t : Table) : Type 0 where
+  -- the first i rows of a list are sound, apart and in their places
+  pub record Listed (rows : List BridgeRow) (i : ℕ) (l : List Bridge) : Type 0 where
     pub upto : i ≤ length rows
-    pub table-is : t ≡ tableOfRows (take i rows)
+    pub places : l ≡ placesOf (take i rows)
     pub good : rowsGood (take i rows) ≡ true
 
-  pub listed-none : (rows : List BridgeRow) → Listed rows 0 (tableOf [])
-  listed-none rows = record { upto = omega arith; table-is = refl; good = refl }
+  pub listed-none : (rows : List BridgeRow) → Listed rows 0 (padded noBridge maxRows [])
+  listed-none rows = record { upto = omega arith; places = refl; good = refl }
 
-  module _ (rows : List BridgeRow) (i : ℕ) (t : Table) (d : BridgeRow) (listed : Listed rows i t) (left : i < length rows) (few : length rows ≤ maxRows) where
+  module _ (rows : List BridgeRow) (i : ℕ) (l : List Bridge) (d : BridgeRow) (listed : Listed rows i l) (left : i < length rows) where
     abbrev here : BridgeRow
     here = getD rows i d
-
-    front : length (take i rows) ≡ i
-    front = length-take-le i rows (listed .upto)
 
     next : take (i + 1) rows ≡ take i rows ++ here ∷ []
     next = rw (add-one i) (take-suc rows i d left)
 
     -- one row more, by whether it is admitted
-    more : rowsGood (take (i + 1) rows) ≡ admissible es t here
-    more = rw (next, one-more (take i rows) here (rw front (omega (arith, listed .upto))), listed .good, listed .table-is)
+    more : rowsGood (take (i + 1) rows) ≡ admissible (take i rows) here
+    more = rw (next, one-more (take i rows) here, listed .good)
 
     -- the row is admitted
-    pub listed-more : admissible es t here ≡ true → Listed rows (i + 1) (withNext t i (bridgeOf es here))
-    listed-more a = record { upto = omega arith; table-is = stored; good = more ∙ a }
+    pub listed-more : length rows ≤ maxRows → admissible (take i rows) here ≡ true → Listed rows (i + 1) (set l i (bridgeOf es here))
+    listed-more few a = record { upto = omega arith; places = stored; good = more ∙ a }
       where
+        front : length (take i rows) ≡ i
+        front = length-take-le i rows (listed .upto)
+
         room : length (take i rows) < maxRows
         room = rw front (omega arith)
 
-        stored : withNext t i (bridgeOf es here) ≡ tableOfRows (take (i + 1) rows)
-        stored = rw (next, listed .table-is) (rw front at (table-more (take i rows) here room))
+        stored : set l i (bridgeOf es here) ≡ placesOf (take (i + 1) rows)
+        stored = rw (next, listed .places) (rw front at (placed-more (take i rows) here room))
 
     -- it is not: the whole list breaks a rule
-    pub listed-stop : admissible es t here ≡ false → rowsSound es rows ≡ false
+    pub listed-stop : admissible (take i rows) here ≡ false → rowsSound es rows ≡ false
     unfolding rowsSound
     listed-stop a = fails (leb (length rows) maxRows && every (rowSound es) rows && pairwise rowsApart rows) no
       where
@@ -127,17 +116,20 @@ module _ (es : List Entry) where
             true≢false (sym (and-is (every-take (rowSound es) rows (i + 1) sound) (pairwise-take rowsApart rows (i + 1) apart)) ∙ more ∙ a)
 
   -- all rows are listed
-  pub listed-all : (rows : List BridgeRow) (i : ℕ) (t : Table) → Listed rows i t → length rows ≤ i → length rows ≤ maxRows
-      → (rowsSound es rows ≡ true) × (t ≡ tableOfRows rows)
+  pub listed-all : (rows : List BridgeRow) (i : ℕ) (l : List Bridge) → Listed rows i l → length rows ≤ i → length rows ≤ maxRows
+      → (rowsSound es rows ≡ true) × (record { bridges = l; count = i } ≡ tableOf (map (bridgeOf es) rows))
   unfolding rowsSound
-  listed-all rows i t listed past few =
+  listed-all rows i l listed past few =
       let w = take-all i rows past in
       let g : rowsGood rows ≡ true = rw w at (listed .good) in (
         and-is
             (and-is (le-leb (length rows) maxRows few) (and-l (every (rowSound es) rows) (pairwise rowsApart rows) g))
             (and-r (every (rowSound es) rows) (pairwise rowsApart rows) g),
-        rw w at (listed .table-is),
+        ap₂ (λ (k : List Bridge) (n : ℕ). record { bridges = k; count = n }) (rw w at (listed .places)) (n=i ∙ sym (length-map rows (bridgeOf es))),
       )
+    where
+      n=i : i ≡ length rows
+      n=i = omega (arith, listed .upto)
 
 -- a list of more rows than a table holds
 too-many : (es : List Entry) (rows : List BridgeRow) → maxRows < length rows → rowsSound es rows ≡ false
@@ -163,7 +155,7 @@ module _ (x : StartInput) where
   rows-refused m r = rw (m, r) (refl, refl)
 
   -- a start that is not refused
-  pub all-admitted : mcfgSound (x .mcfg) ≡ true → rowsSound es (x .rows) ≡ true → (0 ≡ startNumber x) × (tableOfRows es (x .rows) ≡ startTable x)
+  pub all-admitted : mcfgSound (x .mcfg) ≡ true → rowsSound es (x .rows) ≡ true → (0 ≡ startNumber x) × (tableOf (map (bridgeOf es) (x .rows)) ≡ startTable x)
   unfolding startTable startNumber
   all-admitted m r = rw (m, r) (refl, refl)
 

@@ -1,13 +1,11 @@
--- Tests over a list with one more element at its end, and over its front; lists read by place, mapped and padded.
+-- Tests over a list with one more element at its end, and over its front; lists mapped and padded.
 -- Assumes nothing.
-use Prim.Native.Nat.{ℕ, zero, suc, _+_, _≤_, _<_}
+use Prim.Native.Nat.{ℕ, zero, suc, _≤_, _<_}
 use mathlib.Core.Path.{_≡_, refl, sym, ap, _∙_}
 use mathlib.Core.Bool.{Bool, true, _&&_, and-true, and-assoc}
 use mathlib.Core.List.{List, [], _∷_, _++_, map}
-use native.Mathlib.Numerals.{add-one}
 use native.Mathlib.Omega.{arith}
-use lib.ListN.{length, take, drop, getD, set, length-take, take-append-drop, drop-of-length-le}
-use lib.Seq.{drop-cons, getD-take}
+use lib.ListN.{length, take, drop, set, take-append-drop}
 use Rattle.rules.specs.Lists.{every, pairwise, padded}
 use Rattle.rules.proofs.Tests.{and-l, and-r, and-is}
 use Rattle.mcfg.proofs.Heads.{shuffle}
@@ -47,15 +45,7 @@ module _ {A : Type 0} where
   pub pairwise-take : (p : A → A → Bool) (l : List A) (i : ℕ) → pairwise p l ≡ true → pairwise p (take i l) ≡ true
   pairwise-take p l i e = pairwise-front p (take i l) (drop i l) (ap (pairwise p) (take-append-drop i l) ∙ e)
 
-  -- a list in an array: the element at j and those after it, or none
-
-  pub taken-head : (l : List A) (n j : ℕ) (d : A) → j < n → j < length l → drop j (take n l) ≡ getD l j d ∷ drop (j + 1) (take n l)
-  taken-head l n j d h k =
-      let b : j < length (take n l) = simp length-take (omega arith) in
-      rw (add-one j, drop-cons (take n l) j d b, getD-take n l j d h)
-
-  pub taken-end : (l : List A) (n j : ℕ) → length (take n l) ≤ j → drop j (take n l) ≡ []
-  taken-end l n j h = drop-of-length-le (take n l) {i = j} h
+  -- a list in an array is its front
 
   pub padded-take : (d : A) (n : ℕ) (l : List A) → length l ≤ n → take (length l) (padded d n l) ≡ l
   padded-take d n [] h = refl
@@ -63,10 +53,6 @@ module _ {A : Type 0} where
   padded-take d (suc n) (y ∷ l) h = ap (λ (k : List A). y ∷ k) (padded-take d n l (omega arith))
 
 module _ {A B : Type 0} (f : A → B) where
-  pub every-map : (p : B → Bool) (l : List A) → every p (map f l) ≡ every (λ (x : A). p (f x)) l
-  every-map p [] = refl
-  every-map p (x ∷ l) = ap (λ (t : Bool). p (f x) && t) (every-map p l)
-
   pub map-snoc : (l : List A) (x : A) → map f (l ++ x ∷ []) ≡ map f l ++ f x ∷ []
   map-snoc [] x = refl
   map-snoc (y ∷ l) x = ap (λ (k : List B). f y ∷ k) (map-snoc l x)

@@ -1,112 +1,69 @@
--- Start's walk over a list of rows: what holds before the first row, is kept by each row, and gives start's answer at the end.
+-- Start's walk over a list of rows: what holds before the first row, is kept by each row, and gives start's answer wherever the walk ends.
 -- Assumes nothing.
 use Prim.Native.Nat.{ℕ, _+_, _≤_, _<_}
-use mathlib.Core.Path.{_≡_, refl, sym}
-use mathlib.Core.Bool.{Bool, true, false}
-use mathlib.Core.List.{List}
-use native.Mathlib.Omega.{arith}
-use lib.Dec.{eqb}
-use lib.ListN.{length, getD}
-use borrow.Author.Tests.{eqb-true, eqb-false, eq-eqb, ne-eqb}
+use mathlib.Core.Path.{_≡_}
+use mathlib.Core.Bool.{Bool, true, cond}
+use mathlib.Core.List.{List, []}
+use lib.ListN.{length, take, getD, set}
 use Rattle.rules.specs.Limits.{maxRows}
+use Rattle.rules.specs.Lists.{padded}
 use Rattle.rules.specs.Mcfg.{entries, mcfgSound}
+use Rattle.rules.specs.Tables.{noBridge}
 use Rattle.rules.specs.Start.{StartInput, bridgeOf, startNumber, startTable}
+use Rattle.rules.specs.declared.Bridge.{Bridge}
 use Rattle.rules.specs.declared.BridgeRow.{BridgeRow}
 use Rattle.rules.specs.declared.Entry.{Entry}
-use Rattle.start.specs.Admission.{noRow, admissible, withNext, withoutBridges, begun, rowsToRead, nextStarted}
+use Rattle.start.specs.Admission.{noRow, firstNumber, startedWith, withoutBridges}
 use Rattle.start.specs.declared.Started.{Started}
-use Rattle.start.proofs.Admission.{Listed, listed-none, listed-more, listed-stop, listed-all, rows-refused, all-admitted, first-passes, first-refuses}
-
--- ---- one row
-
-module _ (es : List Entry) (s : Started) (i : ℕ) (r : BridgeRow) where
-  -- a refusal stays
-  pub next-stays : (s .number ≡ 0 → ⊥) → s ≡ nextStarted es s i r
-  unfolding nextStarted
-  next-stays z = rw (ne-eqb (s .number) 0 z)
-
-  -- a row is refused
-  pub next-refuses : s .number ≡ 0 → admissible es (s .table) r ≡ false → withoutBridges 7 ≡ nextStarted es s i r
-  unfolding nextStarted
-  next-refuses z a = rw (eq-eqb (s .number) 0 z, a)
-
-  -- a row is admitted
-  pub next-admits : s .number ≡ 0 → admissible es (s .table) r ≡ true → record { number = 0; table = withNext (s .table) i (bridgeOf es r) } ≡ nextStarted es s i r
-  unfolding nextStarted
-  next-admits z a = rw (eq-eqb (s .number) 0 z, a)
-
--- ---- all rows
+use Rattle.start.proofs.Admission.{admissible, admitted, rejected, Listed, listed-none, listed-more, listed-stop, listed-all, rows-refused, all-admitted, first-passes, first-refuses}
 
 module _ (x : StartInput) where
   abbrev es : List Entry
   es = entries (x .mcfg)
 
-  -- start before its first row, and the rows that are walked
-  abbrev first : Started
-  first = begun (x .mcfg) (length (x .rows))
-
-  abbrev pub toRead : ℕ
-  toRead = rowsToRead first (length (x .rows))
+  -- what start refuses before its first row
+  abbrev first : ℕ
+  first = firstNumber (x .mcfg) (length (x .rows))
 
   -- the answer is start's
   abbrev pub Answer : Started → Type 0
   Answer s = (s .number ≡ startNumber x) × (s .table ≡ startTable x)
 
-  -- i rows are walked: they are in the table, or start has refused
-  pub data Reached (i : ℕ) (s : Started) : Type 0 where
-    listing : first .number ≡ 0 → s .number ≡ 0 → Listed es (x .rows) i (s .table) → Reached i s
-    refusing : (s .number ≡ 0 → ⊥) → Answer s → Reached i s
+  -- i rows are walked, and their bridges are in their places
+  pub record Reached (i : ℕ) (l : List Bridge) : Type 0 where
+    pub sound : mcfgSound (x .mcfg) ≡ true
+    pub few : length (x .rows) ≤ maxRows
+    pub listed : Listed es (x .rows) i l
 
-  -- what `firstNumber` lets through
-  passed : first .number ≡ 0 → (mcfgSound (x .mcfg) ≡ true) × (length (x .rows) ≤ maxRows)
-  unfolding begun
-  passed = first-passes x (first .number) (length (x .rows)) refl
-
-  all-walked : first .number ≡ 0 → toRead ≡ length (x .rows)
-  unfolding rowsToRead
-  all-walked z = rw (eq-eqb (first .number) 0 z)
-
-  none-walked : (first .number ≡ 0 → ⊥) → toRead ≡ 0
-  unfolding rowsToRead
-  none-walked z = rw (ne-eqb (first .number) 0 z)
-
-  -- no more rows are walked than there are, and no more than a table holds
-  pub walked-in : (toRead ≤ length (x .rows)) × (toRead ≤ maxRows)
-  walked-in = go (eqb (first .number) 0) refl
-    where
-      go : (q : Bool) → eqb (first .number) 0 ≡ q → (toRead ≤ length (x .rows)) × (toRead ≤ maxRows)
-      go true e = let z = eqb-true (first .number) 0 e in rw (all-walked z) (omega arith, passed z .1)
-      go false e = rw (none-walked (eqb-false (first .number) 0 e)) (omega arith, omega arith)
+  -- a refusal before the first row
+  pub refused-first : (n : ℕ) → n ≡ first → (n ≡ 0 → ⊥) → Answer (withoutBridges n)
+  refused-first n e z = first-refuses x n (length (x .rows)) e (λ long. long) z
 
   -- no row is walked yet
-  pub reached-none : Reached 0 first
-  unfolding begun
-  reached-none = go (eqb (first .number) 0) refl
-    where
-      go : (q : Bool) → eqb (first .number) 0 ≡ q → Reached 0 first
-      go true e = let z = eqb-true (first .number) 0 e in listing z z (listed-none es (x .rows))
-      go false e = let z = eqb-false (first .number) 0 e in refusing z (first-refuses x (first .number) (length (x .rows)) refl (λ long. long) z)
+  pub reached-none : (n : ℕ) → n ≡ first → n ≡ 0 → (l : List Bridge) → l ≡ padded noBridge maxRows [] → Reached 0 l
+  reached-none n e z l f = let p = first-passes x n (length (x .rows)) e z in rw f (record { sound = p .0; few = p .1; listed = listed-none es (x .rows) })
 
-  -- one row more
-  pub reached-more : (i : ℕ) (s s′ : Started) → Reached i s → i < toRead → s′ ≡ nextStarted es s i (getD (x .rows) i noRow) → Reached (i + 1) s′
-  reached-more i s s′ (refusing z a) l e = rw (e, sym (next-stays es s i (getD (x .rows) i noRow) z)) (refusing z a)
-  reached-more i s s′ (listing f z listed) l e = go (admissible es (s .table) r) refl
-    where
-      r : BridgeRow
-      r = getD (x .rows) i noRow
+  module _ (i : ℕ) (l : List Bridge) (reached : Reached i l) where
+    -- all rows are walked
+    pub reached-all : length (x .rows) ≤ i → Answer (startedWith l i)
+    reached-all past =
+        let all = listed-all es (x .rows) i l (reached .listed) past (reached .few) in
+        rw (all .1) (all-admitted x (reached .sound) (all .0))
 
-      left : i < length (x .rows)
-      left = omega (arith, walked-in .0)
+    -- the next row is judged: its number n, and the bridge b
+    module _ (left : i < length (x .rows)) (n : ℕ) (b : Bridge) where
+      abbrev row : BridgeRow
+      row = getD (x .rows) i noRow
 
-      go : (q : Bool) → admissible es (s .table) r ≡ q → Reached (i + 1) s′
-      go true a = rw (e, sym (next-admits es s i r z a)) (listing f refl (listed-more es (x .rows) i (s .table) noRow listed left (passed f .1) a))
-      go false a =
-          rw (e, sym (next-refuses es s i r z a))
-          (refusing (λ w. absurd (omega arith)) (rows-refused x (passed f .0) (listed-stop es (x .rows) i (s .table) noRow listed left (passed f .1) a)))
+      abbrev fine : Bool
+      fine = admissible es (take i (x .rows)) row
 
-  -- all rows are walked
-  pub reached-all : (i : ℕ) (s : Started) → Reached i s → toRead ≤ i → Answer s
-  reached-all i s (refusing z a) past = a
-  reached-all i s (listing f z listed) past =
-      let all = listed-all es (x .rows) i (s .table) listed (rw (all-walked f) at past) (passed f .1) in
-      rw (z, all .1) (all-admitted x (passed f .0) (all .0))
+      pub refused-row : n ≡ cond fine 0 7 → (n ≡ 0 → ⊥) → Answer (withoutBridges n)
+      refused-row e z =
+          let no = rejected fine n e z in
+          rw (no .1) (rows-refused x (reached .sound) (listed-stop es (x .rows) i l noRow (reached .listed) left (no .0)))
+
+      pub reached-more : n ≡ cond fine 0 7 → b ≡ cond fine (bridgeOf es row) noBridge → n ≡ 0 → Reached (i + 1) (set l i b)
+      reached-more e f z =
+          let ok = admitted fine n e z in
+          rw (f, ok) (record { sound = reached .sound; few = reached .few; listed = listed-more es (x .rows) i l noRow (reached .listed) left (reached .few) ok })

@@ -7,15 +7,14 @@ use rules::Table;
 use rules::constants::KNOWN_CONTROL;
 use rules::constants::MAX_OWNER;
 ghost use mathlib.Core.Path.{_≡_};
-ghost use mathlib.Core.Bool.{cond};
+ghost use mathlib.Core.Bool.{cond, _&&_};
 ghost use mathlib.Core.List.{[]};
-ghost use Prim.Native.Nat.{_<_};
 ghost use Rattle.rules.specs.Limits.{maxRows};
-ghost use Rattle.rules.specs.Lists.{every};
+ghost use Rattle.rules.specs.Lists.{padded};
 ghost use Rattle.rules.specs.Mcfg.{entries};
-ghost use Rattle.rules.specs.Tables.{noBridge, bridgesOf};
-ghost use Rattle.rules.specs.Start.{permissible, bridgeOf, tableOf};
-ghost use Rattle.start.specs.Admission.{rowSoundIf, bridgeApart, admissible, firstNumber, withNext, withoutBridges, begun, rowsToRead, nextStarted};
+ghost use Rattle.rules.specs.Tables.{noBridge};
+ghost use Rattle.rules.specs.Start.{permissible, rowSound, rowsApart, bridgeOf, tableOf};
+ghost use Rattle.start.specs.Admission.{rowSoundIf, firstNumber, startedWith, withoutBridges};
 
 // The rows of a list by value: one more than a table holds, so that a list that is too long can be handed in.
 pub const LIST_ROWS: usize = rules::MAX_ROWS + 1;
@@ -47,30 +46,14 @@ fn row_sound(row: BridgeRow, inside: bool) -> bool
         & (row.permitted & mask == row.permitted)
 }
 
-// A bridge and a row of one segment share no bus.
-fn apart(b: Bridge, row: BridgeRow) -> bool
-    ensures { λ r. ⌜ r ≡ bridgeApart row b ⌝ }
+// Two rows of one segment share no bus.
+pub fn rows_apart(q: BridgeRow, row: BridgeRow) -> bool
+    ensures { λ r. ⌜ r ≡ rowsApart q row ⌝ }
 {
-    (b.segment != row.segment) | ((b.last_bus < row.first_bus) | (row.last_bus < b.first_bus))
-}
-
-// No bridge of the table shares a bus with the row.
-fn apart_from_all(t: Table, row: BridgeRow) -> bool
-    ensures { λ r. ⌜ r ≡ every (bridgeApart row) (bridgesOf t) ⌝ }
-{
-    let n = t.count;
-    let mut j = 0;
-    while j < rules::MAX_ROWS {
-        if n <= j {
-            return true;
-        }
-        let b = t.bridges[j];
-        if !apart(b, row) {
-            return false;
-        }
-        j += 1;
+    if q.segment != row.segment {
+        return true;
     }
-    true
+    (q.last_bus < row.first_bus) | (row.last_bus < q.first_bus)
 }
 
 // A row judged: 0 and its bridge, or 7 and zeros.
@@ -97,13 +80,13 @@ fn no_bridge() -> Bridge
     }
 }
 
-// A row against the bridges of the rows before it and the MCFG entries.
-pub fn admit(mcfg: &[u8], t: Table, row: BridgeRow) -> Admitted
-    ensures { λ r. ⌜ (r .number ≡ cond (admissible (entries (now (mcfg .entry))) t row) 0 7)
-        × (r .bridge ≡ cond (admissible (entries (now (mcfg .entry))) t row) (bridgeOf (entries (now (mcfg .entry))) row) noBridge) ⌝ }
+// A row against the MCFG entries; `apart` says that it shares no bus with a row before it.
+pub fn admit(mcfg: &[u8], row: BridgeRow, apart: bool) -> Admitted
+    ensures { λ r. ⌜ (r .number ≡ cond (rowSound (entries (now (mcfg .entry))) row && apart) 0 7)
+        × (r .bridge ≡ cond (rowSound (entries (now (mcfg .entry))) row && apart) (bridgeOf (entries (now (mcfg .entry))) row) noBridge) ⌝ }
 {
     let place = mcfg::entry_of(mcfg, row);
-    if row_sound(row, place.found) & apart_from_all(t, row) {
+    if row_sound(row, place.found) & apart {
         let owner = row.owner;
         let bridge = Bridge {
             base: place.base,
@@ -136,24 +119,20 @@ pub fn first_number(mcfg: &[u8], count: usize) -> u8
     0
 }
 
+// The places of a table with no bridges.
+pub fn no_places() -> [Bridge; rules::MAX_ROWS]
+    ensures { λ r. ⌜ r ≡ padded noBridge maxRows [] ⌝ }
+{
+    let b = no_bridge();
+    [b; rules::MAX_ROWS]
+}
+
 // The table with no bridges.
 pub fn no_bridges() -> Table
     ensures { λ r. ⌜ r ≡ tableOf [] ⌝ }
 {
-    let b = no_bridge();
-    let bridges = [b; rules::MAX_ROWS];
+    let bridges = no_places();
     Table { bridges, count: 0 }
-}
-
-// The table with bridge `i`, its last.
-pub fn with_next(t: Table, i: usize, b: Bridge) -> Table
-    requires { ⌜ i < maxRows ⌝ }
-    ensures { λ r. ⌜ r ≡ withNext t i b ⌝ }
-{
-    let mut next = t;
-    next.bridges[i] = b;
-    next.count = i + 1;
-    next
 }
 
 // What start gives: its number, and the table.
@@ -164,43 +143,17 @@ pub struct Started {
 }
 
 // A start with no bridges.
-fn without_bridges(number: u8) -> Started
+pub fn without_bridges(number: u8) -> Started
     ensures { λ r. ⌜ r ≡ withoutBridges number ⌝ }
 {
     let table = no_bridges();
     Started { number, table }
 }
 
-// Start before its first row.
-pub fn begin(mcfg: &[u8], count: usize) -> Started
-    ensures { λ r. ⌜ r ≡ begun (now (mcfg .entry)) count ⌝ }
+// A start with `count` bridges.
+pub fn with_bridges(bridges: [Bridge; rules::MAX_ROWS], count: usize) -> Started
+    ensures { λ r. ⌜ r ≡ startedWith bridges count ⌝ }
 {
-    without_bridges(first_number(mcfg, count))
-}
-
-// How many of `count` rows are to be walked: none where start has refused.
-pub fn rows_to_read(s: Started, count: usize) -> usize
-    ensures { λ r. ⌜ r ≡ rowsToRead s count ⌝ }
-{
-    if s.number == 0 {
-        return count;
-    }
-    0
-}
-
-// Start after row `i`.
-pub fn next(mcfg: &[u8], s: Started, i: usize, row: BridgeRow) -> Started
-    requires { ⌜ i < maxRows ⌝ }
-    ensures { λ r. ⌜ r ≡ nextStarted (entries (now (mcfg .entry))) s i row ⌝ }
-{
-    if s.number != 0 {
-        return s;
-    }
-    let t = s.table;
-    let a = admit(mcfg, t, row);
-    if a.number != 0 {
-        return without_bridges(7);
-    }
-    let table = with_next(t, i, a.bridge);
+    let table = Table { bridges, count };
     Started { number: 0, table }
 }

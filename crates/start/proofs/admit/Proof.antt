@@ -1,19 +1,18 @@
--- `start::admit` meets its contract: the two tests together decide, and the entry's base is the one that the row takes.
+-- `start::admit` meets its contract: the row's own rules and what `apart` says decide, and the entry's base is the one that the row takes.
 use mathlib.Core.Path.{_≡_, refl, sym, _∙_}
 use mathlib.Core.Bool.{_&&_}
 use denote.Ref.{now}
 use Rattle.rules.specs.Mcfg.{entries}
-use Rattle.start.specs.Admission.{admissible}
+use Rattle.rules.specs.Start.{rowSound}
 use borrow.Author.Needs.{needs}
 use Rattle.start.proofs.admit.Statement.{statement}
 use Rattle.start.proofs.admit.Tie as tie
 
--- both tests together are the definition's
-judged : (c : tie.After-apart-from-all)
-    → (c .before .row-sound .result && c .apart-from-all .result)
-    ≡ admissible (entries (now (c .before .before .before .before .args .mcfg))) (c .before .before .before .before .args .t) (c .before .before .before .before .args .row)
-unfolding admissible
-judged c = rw (c .before .row-sound .ensures, c .apart-from-all .ensures, c .before .before .entry-of .ensures .0)
+-- the tests together are the definition's
+judged : (c : tie.After-row-sound)
+    → (c .row-sound .result && c .before .before .before .args .apart)
+    ≡ (rowSound (entries (now (c .before .before .before .args .mcfg))) (c .before .before .before .args .row) && c .before .before .before .args .apart)
+judged c = rw (c .row-sound .ensures, c .before .entry-of .ensures .0)
 
 entry-of-requires : tie.Need-entry-of-requires
 entry-of-requires c κs = search needs
@@ -21,11 +20,8 @@ entry-of-requires c κs = search needs
 row-sound-requires : tie.Need-row-sound-requires
 row-sound-requires c κs = search needs
 
-apart-from-all-requires : tie.Need-apart-from-all-requires
-apart-from-all-requires c κs = search needs
-
 returns : tie.Need-returns
-returns c = simp (sym (judged (c .before .before)) ∙ c .before .if1 .taken, c .before .before .before .before .entry-of .ensures .1) (refl, refl)
+returns c = simp (sym (judged (c .before .before)) ∙ c .before .if1 .taken, c .before .before .before .entry-of .ensures .1) (refl, refl)
 
 no-bridge-requires : tie.Need-no-bridge-requires
 no-bridge-requires c κs = search needs
@@ -34,12 +30,4 @@ returns-2 : tie.Need-returns-2
 returns-2 c = rw (sym (judged (c .before .before)) ∙ c .before .if1 .left) (refl, c .no-bridge .ensures)
 
 pub admit-spec : {M : Type 1} → statement M
-admit-spec =
-    tie.close
-    (tie.spec
-    entry-of-requires
-    row-sound-requires
-    apart-from-all-requires
-    returns
-    no-bridge-requires
-    returns-2)
+admit-spec = tie.close (tie.spec entry-of-requires row-sound-requires returns no-bridge-requires returns-2)

@@ -1,15 +1,13 @@
--- `start::no_bridges` meets its contract: every place of the array holds zeros.
+-- `start::no_bridges` meets its contract: its places are those of `no_places`.
 use borrow.Author.Needs.{needs}
-use Rattle.rules.specs.Limits.{maxRows}
 use Rattle.start.proofs.no_bridges.Statement.{statement}
 use Rattle.start.proofs.no_bridges.Tie as tie
 
-no-bridge-requires : tie.Need-no-bridge-requires
-no-bridge-requires c κs = search needs
+no-places-requires : tie.Need-no-places-requires
+no-places-requires c κs = search needs
 
 returns : tie.Need-returns
-unfolding maxRows
-returns c = rw (c .no-bridge .ensures)
+returns c = rw (c .no-places .ensures)
 
 pub no-bridges-spec : {M : Type 1} → statement M
-no-bridges-spec = tie.close (tie.spec no-bridge-requires returns)
+no-bridges-spec = tie.close (tie.spec no-places-requires returns)
