@@ -68,7 +68,10 @@ fn entry_sound(e: Entry) -> bool
 fn share_no_bus(e: Entry, f: Entry) -> bool
     ensures { λ r. ⌜ r ≡ shareNoBus e f ⌝ }
 {
-    (e.segment != f.segment) | ((e.end_bus < f.start_bus) | (f.end_bus < e.start_bus))
+    if e.segment != f.segment {
+        return true;
+    }
+    (e.end_bus < f.start_bus) | (f.end_bus < e.start_bus)
 }
 
 // The first byte of its window.
@@ -102,7 +105,10 @@ fn apart(e: Entry, f: Entry) -> bool
     requires { ⌜ entrySound f ≡ true ⌝ }
     ensures { λ r. ⌜ r ≡ apart e f ⌝ }
 {
-    share_no_bus(e, f) & share_no_byte(e, f)
+    if !share_no_bus(e, f) {
+        return false;
+    }
+    share_no_byte(e, f)
 }
 
 // Every entry is sound.
