@@ -1,8 +1,8 @@
 -- Laws of `sameBytes` and of `sum`.
-use Prim.Native.Nat.{ℕ, _+_, _<_, _≤_}
+use Prim.Native.Nat.{ℕ, suc, _+_, _<_, _≤_}
 use mathlib.Core.Path.{_≡_, refl, sym, ap, subst}
 use mathlib.Core.List.{List, [], _∷_}
-use mathlib.Core.Bool.{Bool, true, false, _&&_}
+use mathlib.Core.Bool.{Bool, true, false, _&&_, and-true, and-assoc}
 use native.Mathlib.Numerals.{add-one}
 use lib.Dec.{eqb}
 use lib.ListN.{length, drop, getD, drop-of-length-le}
@@ -46,3 +46,11 @@ same-flag a b false h k = no (sameBytes a b) refl
 -- strings of different lengths differ
 pub differ-length : (a b : List ℕ) → (length a ≡ length b → ⊥) → sameBytes a b ≡ false
 differ-length a b h = sym (same-flag a b false (λ e. cc) (λ e. absurd (h (ap length e))))
+
+-- strings of one length, compared from place i on: one byte more, and past the end
+module _ (a b : List ℕ) (i : ℕ) (e : length a ≡ length b) where
+  pub same-step : i < length a → (q : Bool) → (q && eqb (getD a i 0) (getD b i 0)) && sameBytes (drop (i + 1) a) (drop (i + 1) b) ≡ q && sameBytes (drop i a) (drop i b)
+  same-step h q = rw (add-one, drop-cons a i 0 h, drop-cons b i 0 (subst (λ (n : ℕ). i < n) e h)) (and-assoc q (eqb (getD a i 0) (getD b i 0)) (sameBytes (drop (suc i) a) (drop (suc i) b)))
+
+  pub same-past : length a ≤ i → (q : Bool) → q && sameBytes (drop i a) (drop i b) ≡ q
+  same-past h q = rw (drop-of-length-le a {i = i} h, drop-of-length-le b {i = i} (subst (λ (n : ℕ). n ≤ i) e h)) (and-true q)
