@@ -14,7 +14,7 @@ use base.Fml.{GName, Lft, Share, Fml, fsep, flft, fobs, fbor}
 use prog.Wp.{Heap}
 use ghost.Atoms.{Atoms, sem}
 use contract.Monad.{fact}
-use types.Kit.{Given, Goal, Item, Sq, Soaks, mean, ‵, raw, _⊛_, ⋆, some, later, _$_, _∵_, !, qed, move, use0, use1, use2, split, join, pick, await, fjoin, fjoin3, feqI, frame, done}
+use types.Kit.{Given, Goal, Item, Sq, Soaks, mean, ‵, raw, _⊛_, ⋆, some, later, _$_, _∵_, !, qed, move, use0, use1, use2, split, join, fjoin, fjoin3, feqI, frame, done}
 use types.SemTy.{Body}
 use denote.RattleType.{RattleType}
 use denote.Laws.{Is}
@@ -22,7 +22,7 @@ use denote.Memory.{mem}
 use denote.Builtin.{usize}
 use denote.Plain.{uint-makes}
 use denote.Ref.{MutRef}
-use denote.Steps.{owned, heard}
+use denote.Steps.{owned}
 use denote.Struct.Laws as LL
 use denote.Triple.Walked.{says}
 use Rattle.rules.specs.declared.Table.{Table}
@@ -30,6 +30,7 @@ use Rattle.rules.specs.declared.Bridge.{Bridge}
 use Rattle.rules.proofs.Table as T
 use Rattle.rules.proofs.Bridge as B
 use Rattle.rules.proofs.Bridge.Laws as B′
+use Rattle.lent.proofs.Walks.{answered}
 use Rattle.lent.proofs.RowIn.{mach}
 
 module _ {M : Type 1} {𝓤 : URA M} {H : Heap 𝓤} {A : Atoms 𝓤} (W : Given 𝓤 H A) (toks : Item 𝓤) (own : Fml) where
@@ -51,7 +52,7 @@ module _ {M : Type 1} {𝓤 : URA M} {H : Heap 𝓤} {A : Atoms 𝓤} (W : Given
       → ((v : Val) → ent 𝓤 (post v) (mean 𝓤 H A (later (some (λ (d : D .Denot). (toks ⊛ ‵ (D .own d (v ∷ []))) ⊛ raw (Ens d))))))
       → (v : Val) (Γ : List (Item 𝓤)) (G : Goal 𝓤 H) → Soaks G → ((d : D .Denot) → Said d → Sq W (‵ (D .own d (v ∷ [])) ∷ toks ∷ Γ) G) → Sq W (raw (post v) ∷ Γ) G
   gives D Ens Said said post back v Γ G soaks k =
-      use1 W (later (some (λ (d : D .Denot). (toks ⊛ ‵ (D .own d (v ∷ []))) ⊛ raw (Ens d)))) (back v) $ await ! soaks $ pick ! (λ d. split ! $ move ! (1 ∷ []) $ use1 W (raw (fact 𝓤 (Said d))) (said d) $ heard ! (Said d) (λ e. split ! $ move ! (1 ∷ []) $ k d e))
+      use1 W (raw (mean 𝓤 H A (later (some (λ (d : D .Denot). (toks ⊛ ‵ (D .own d (v ∷ []))) ⊛ raw (Ens d)))))) (back v) $ answered ! soaks D toks Ens Said said v k
 
   pub ends : (κ : Lft) (q : Share) (b o : ℕ) (γ : GName) (t : Table) (res : Fml) (Φ : Type 0) → Φ
       → ent 𝓤 (⋆ 𝓤 H A (‵ (fobs γ (T.the-row .coded .code t)) ∷ ‵ (fbor κ (Body (mem T.the-row) b o γ)) ∷ ‵ (flft κ q) ∷ toks ∷ ‵ own ∷ ‵ res ∷ []))

@@ -1,3 +1,4 @@
+pub mod Walks
 pub mod RowIn
 pub mod Params
 pub mod RowSteps

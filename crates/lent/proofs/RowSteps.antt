@@ -20,7 +20,7 @@ use prog.Routine.{Routine}
 use ghost.Atoms.{Atoms, sem}
 use contract.Monad.{Fun, fact}
 use sound.WpLaws.{FmC}
-use types.Kit.{Given, Item, Sq, Post, runs, ‵, raw, _⊛_, some, later, _$_, _∵_, !, qed, move, drop, use1, split, join, pick, await, fjoin, fpack, rewrite, frame, done}
+use types.Kit.{Given, Item, Sq, Post, runs, mean, ‵, raw, _⊛_, some, later, _$_, _∵_, !, qed, move, drop, use1, join, fjoin, fpack, rewrite, frame, done}
 use types.Run.{look, look-raw, store, init, forget, stop, hop, fld, load, lit, of-opd, bin, addr, and-then, no-more, assigns, land}
 use types.Part.{whole, sub, look-in, store-in}
 use types.SemTy.{Body}
@@ -29,7 +29,7 @@ use denote.Laws.{Is, shows}
 use denote.Memory.{cellAt, mem, pointee, partAt, partOf}
 use denote.Builtin.{usize}
 use denote.Plain.{uint-tells, uint-lawful}
-use denote.Steps.{opens, owned, peeks, heard, nothing, only}
+use denote.Steps.{opens, owned, peeks, nothing, only}
 use denote.Triple.Call.{calls-at}
 use denote.Triple.Clauses.{ensured, lasts}
 use denote.Triple.Spec.{tripleOf}
@@ -50,6 +50,7 @@ use Rattle.rules.proofs.BridgeNumber as N
 use Rattle.rules.proofs.BridgeNumber.Laws as N′
 use Rattle.rows.proofs.index as indexed
 use Rattle.rows.proofs.index.Symbol.{name as #index}
+use Rattle.lent.proofs.Walks.{answers}
 use Rattle.lent.proofs.RowIn.{size, row-fits, mach, row-out, row-in}
 use Rattle.lent.proofs.Params.{finds}
 
@@ -190,8 +191,7 @@ module _ {M : Type 1} {𝓤 : URA M} {H : Heap 𝓤} {A : Atoms 𝓤} (W : Given
     row-copied m (at-t, (at-n, (at-i, (at-w, (at-w′, (at-p, (at-p′, at-r))))))) is-n go =
         -- i: [the reference; n; i; w; w′; p; p′; r; the borrow]
         nothing ! $ use1 W (raw (Indexes 𝓤 H A mem′ run .pre to)) (asked is-n) $ calls-at ! fm (Indexes 𝓤 H A mem′ run) known to (and-then ! (load ! (finds W at-n (stop !)) (look ! 2 refl)) (no-more !)) (λ v.
-        use1 W (later (some (λ (j : ℕ). (‵ ftrue ⊛ ‵ (usize .own j (v ∷ []))) ⊛ raw (Ens j)))) (id⊢ 𝓤 _) $ await ! tt $ pick ! (λ j. split ! $ move ! (1 ∷ []) $ use1 W (raw (fact 𝓤 (j ≡ index n))) (said j) $ heard ! (j ≡ index n) (λ e.
-        split ! $ drop ! $ peeks ! usize (Is usize) (shows 𝓤 H A usize) j (v ∷ []) (λ is-j. drop ! $
+        use1 W (raw (mean 𝓤 H A (later (some (λ (j : ℕ). (‵ ftrue ⊛ ‵ (usize .own j (v ∷ []))) ⊛ raw (Ens j)))))) (id⊢ 𝓤 _) $ answers ! tt usize (‵ ftrue) Ens (λ (j : ℕ). j ≡ index n) said v (λ j is-j e. drop ! $
         land ! (finds W at-i (stop !)) (init ! 2 refl (uint-lawful 𝓤 H A W w64 .typed j _ is-j .0)) $ rewrite ! 2 (λ (u : Val). ‵ (fat fullShare word (m .i) 0 u)) (ap only (uint-tells w64 j (v ∷ []) is-j) ∙ ap (vint w64) e) refl $
         -- the borrow is opened, and the count read
         move ! (8 ∷ 9 ∷ 10 ∷ []) $ opens ! tt T.the-row {h = h} b o (λ us. spelt ! T.the-row (Is T.the-row) (shows 𝓤 H A T.the-row) (LL.vals T.the-type T′.the-laws) (LL.tells T.the-type T′.the-laws) fullShare h us b o $
@@ -210,7 +210,7 @@ module _ {M : Type 1} {𝓤 : URA M} {H : Heap 𝓤} {A : Atoms 𝓤} (W : Given
         row-in ! h (index n) b o (bridgeAt h (index n)) $ rewrite ! 0 (λ (t : Table). ‵ (partAt T.the-row fullShare t b o)) (same-bridge h (index n)) refl $
         -- the borrow is closed
         close-ref ! tt (mem T.the-row) h {b = b} {o = o} $ forget ! 7 refl $ forget ! 8 refl $ forget ! 9 refl $ move ! (3 ∷ 4 ∷ 5 ∷ 6 ∷ 7 ∷ 8 ∷ 9 ∷ 10 ∷ []) $
-        go is-c is-r)))))))
+        go is-c is-r)))))
 
   -- ---- the store
   module _ (l : Stores) (d : ℕ) (name : Sym) (ty : Ty) (v : Val) (y : Bridge) where

@@ -58,7 +58,8 @@ use Rattle.start.proofs.rows_apart as apart
 use Rattle.start.proofs.rows_apart.Symbol as apart-def
 use Rattle.start.proofs.rows_apart.Symbol.{name as #apart}
 use Rattle.start.proofs.rows_apart.Met as apart-thm
-use Rattle.lent_start.proofs.RowWalk.{mach, after, offset-fits, size, Nearer, Nearer-wf, answers}
+use Rattle.lent.proofs.Walks.{after, Nearer, Nearer-wf, answers}
+use Rattle.lent_start.proofs.RowWalk.{mach, offset-fits, size}
 use Rattle.lent_start.proofs.apart_before.Key.{name as #apart-before}
 use Rattle.lent_start.proofs.apart_before as own
 use Rattle.lent_start.proofs.apart_before.Statement as stated

@@ -93,7 +93,8 @@ use Rattle.lent_start.proofs.apart_before.Symbol as before-def
 use Rattle.lent_start.proofs.apart_before.Symbol.{name as #before}
 use Rattle.lent_start.proofs.apart_before.Met as before-thm
 use Rattle.lent_start.proofs.Front.{into-memory, out-of-memory, room-back}
-use Rattle.lent_start.proofs.RowWalk.{mach, past, offset-fits, size, Nearer, Nearer-wf, answers, nonzero, is-zero}
+use Rattle.lent.proofs.Walks.{past, Nearer, Nearer-wf, answers}
+use Rattle.lent_start.proofs.RowWalk.{mach, offset-fits, size, nonzero, is-zero}
 use Rattle.lent_start.proofs.start.Key.{name as #start}
 use Rattle.lent_start.proofs.start as own
 use Rattle.lent_start.proofs.start.Statement as stated
