@@ -156,6 +156,7 @@ static void negotiates(slipwattle_table *t) {
 
 /* Session 1 at the bridge of session 2: refused, and nothing changes. */
 static void is_refused(slipwattle_table *t) {
+    static const uint8_t capabilities[12] = {0};
     uint8_t answer[12];
     slipwattle_table before = *t;
     slipwattle_reported r;
@@ -164,7 +165,7 @@ static void is_refused(slipwattle_table *t) {
     memset(answer, 0xAA, sizeof answer);
     CHECK(osc(t, 1, 1, 0, 0x1F, answer) == 2);
     CHECK(osc(t, 1, 2, 0, 0x1F, answer) == 1);
-    CHECK(slipwattle_osc(t, session(1), bridge(0), 1, 3, UUID, 15, answer, 12, answer, 12) == 3);
+    CHECK(slipwattle_osc(t, session(1), bridge(0), 1, 3, UUID, 15, capabilities, 12, answer, 12) == 3);
     CHECK(slipwattle_reset(t, session(1), bridge(1)) == 2);
     CHECK(slipwattle_reset(t, session(1), bridge(255)) == 1);
     r = slipwattle_report(t, session(1), bridge(1));
