@@ -16,13 +16,6 @@ use Rattle.rules.proofs.Tests.{and-off}
 use Rattle.start.proofs.Listing.{padded-snoc}
 use Rattle.row_bytes.specs.RowBytes.{eachFrom, kindAt, kindKnown, kindsOf, readable, rowAt, rowCount, rowsOf}
 
--- a list that is cut where the array ends
-pub padded-cut : {A : Type 0} (d : A) (n i : ℕ) (l : List A) → n ≤ i → padded d n (take i l) ≡ padded d n l
-padded-cut d zero i l h = refl
-padded-cut d (suc n) zero l h = absurd (omega arith)
-padded-cut d (suc n) (suc i) [] h = refl
-padded-cut d (suc n) (suc i) (x ∷ l) h = ap (λ (k : List _). x ∷ k) (padded-cut d n i l (omega arith))
-
 module _ {A : Type 0} (f : ℕ → A) where
   pub each-length : (n i : ℕ) → length (eachFrom f n i) ≡ n
   each-length zero i = refl
@@ -44,19 +37,9 @@ module _ {A : Type 0} (f : ℕ → A) where
     pub each-next : drop i (eachFrom f n 0) ≡ f i ∷ drop (i + 1) (eachFrom f n 0)
     each-next = rw (add-one i, drop-cons (eachFrom f n 0) i (f 0) inside, here)
 
-    -- one row more, stored in an array
-    pub each-stored : (d : A) (m : ℕ) → i < m → set (padded d m (take i (eachFrom f n 0))) i (f i) ≡ padded d m (take (i + 1) (eachFrom f n 0))
-    each-stored d m room =
-        sym
-        (ap (padded d m) more
-        ∙ padded-snoc d m (take i (eachFrom f n 0)) (f i) (rw front room)
-        ∙ ap (λ (k : ℕ). set (padded d m (take i (eachFrom f n 0))) k (f i)) front)
-      where
-        front : length (take i (eachFrom f n 0)) ≡ i
-        front = length-take-le i (eachFrom f n 0) (omega (arith, inside))
-
-        more : take (i + 1) (eachFrom f n 0) ≡ take i (eachFrom f n 0) ++ f i ∷ []
-        more = rw (add-one i, take-suc (eachFrom f n 0) i (f 0) inside, here)
+    -- those before it, and row i
+    pub each-more : take (i + 1) (eachFrom f n 0) ≡ take i (eachFrom f n 0) ++ f i ∷ []
+    each-more = rw (add-one i, take-suc (eachFrom f n 0) i (f 0) inside, here)
 
 module _ (b : List ℕ) where
   -- as many rows as there is room for
@@ -73,11 +56,14 @@ module _ (b : List ℕ) where
   unfolding kindsOf
   kinds-next i left = each-next (kindAt b) (rowCount b) i left
 
-  -- one row more, stored in an array
-  pub rows-stored : (i : ℕ) → i < rowCount b → (d : BridgeRow) (m : ℕ) → i < m
-      → set (padded d m (take i (rowsOf b))) i (rowAt b i) ≡ padded d m (take (i + 1) (rowsOf b))
+  -- row i, and the rows before it
+  pub rows-at : (i : ℕ) → i < rowCount b → (d : BridgeRow) → getD (rowsOf b) i d ≡ rowAt b i
   unfolding rowsOf
-  rows-stored i left d m room = each-stored (rowAt b) (rowCount b) i left d m room
+  rows-at i left d = each-at (rowAt b) (rowCount b) 0 i d left ∙ ap (rowAt b) (omega arith)
+
+  pub rows-more : (i : ℕ) → i < rowCount b → take (i + 1) (rowsOf b) ≡ take i (rowsOf b) ++ rowAt b i ∷ []
+  unfolding rowsOf
+  rows-more i left = each-more (rowAt b) (rowCount b) i left
 
   -- a part of a row is left over, a kind is not known, or whole rows of known kinds
   pub left-over : (length b % 10 ≡ 0 → ⊥) → readable b ≡ false

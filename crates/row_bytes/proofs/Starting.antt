@@ -1,24 +1,29 @@
 -- Start of rows as bytes: refused before the rows are looked at, or start of the rows.
 -- Assumes nothing.
-use Prim.Native.Nat.{ℕ, _+_, _≤_, _<_, zero-le}
-use mathlib.Core.Path.{_≡_, refl, sym, ap, _∙_}
-use mathlib.Core.Bool.{Bool, true, false, not, _&&_}
+use Prim.Native.Nat.{ℕ, _<_, zero-le}
+use mathlib.Core.Path.{_≡_, refl, sym, _∙_}
+use mathlib.Core.Bool.{Bool, true, false, not, cond, _&&_}
 use mathlib.Core.List.{List, [], _∷_}
 use native.Mathlib.Omega.{arith}
 use lib.Dec.{leb}
-use lib.ListN.{take}
+use lib.ListN.{take, getD}
 use borrow.Author.Tests.{leb-true, leb-false, le-leb, lt-leb}
 use Rattle.rules.specs.Limits.{maxRows, maxOwner}
-use Rattle.rules.specs.Lists.{padded}
+use Rattle.rules.specs.Lists.{every, padded}
 use Rattle.rules.specs.Refusals.{_if_, firstOf}
 use Rattle.rules.specs.Mcfg.{entries, mcfgSound}
-use Rattle.rules.specs.Start.{rowsSound, startBy, startNumber, startTable, tableOf}
+use Rattle.rules.specs.Start.{bridgeOf, rowSound, rowsApart, rowsSound, startBy, startNumber, startTable, tableOf}
+use Rattle.rules.specs.declared.Bridge.{Bridge}
+use Rattle.rules.specs.declared.Entry.{Entry}
 use Rattle.rules.specs.declared.BridgeKind.the-variants.{Express}
 use Rattle.rules.specs.declared.BridgeRow.{BridgeRow}
 use Rattle.rules.proofs.Tests.{and-l, and-r, and-off}
-use Rattle.start.specs.Admission.{noRow}
-use Rattle.start.proofs.Listing.{padded-take}
-use Rattle.row_bytes.specs.RowBytes.{rowCount, rowsOf, readable, lentBytes, bytesNumber, bytesTable, ReadableStarts, SomeRowsStart}
+use Rattle.rules.specs.Tables.{noBridge}
+use Rattle.start.specs.Admission.{noRow, withoutBridges}
+use Rattle.start.specs.declared.Started.{Started}
+use Rattle.start.proofs.Admission.{admissible, listed-none}
+use Rattle.start.proofs.Walk.{Reached, Answer}
+use Rattle.row_bytes.specs.RowBytes.{rowCount, rowsOf, readable, lentBytes, firstBytesNumber, bytesNumber, bytesTable, ReadableStarts, SomeRowsStart}
 use Rattle.row_bytes.proofs.Decoding.{rows-length}
 
 pub readable-starts : ReadableStarts
@@ -36,11 +41,15 @@ module _ (mcfg b : List ℕ) where
       go true = refl
       go false = refl
 
+  -- the MCFG table is not sound
+  unsound : mcfgSound mcfg ≡ false → (6 ≡ bytesNumber mcfg b) × (tableOf [] ≡ bytesTable mcfg b)
+  unfolding bytesNumber bytesTable
+  unsound e = rw e (refl, refl)
+
   -- more rows than a table holds, or not readable
-  pub not-listable : leb (rowCount b) maxRows && readable b ≡ false
-      → (firstOf ((6 if not (mcfgSound mcfg)) ∷ (7 if true) ∷ []) ≡ bytesNumber mcfg b) × (tableOf [] ≡ bytesTable mcfg b)
+  not-listable : leb (rowCount b) maxRows && readable b ≡ false → readable b && rowsSound (entries mcfg) (rowsOf b) ≡ false
   unfolding rowsSound
-  not-listable e = broken (go (leb (rowCount b) maxRows) refl e)
+  not-listable e = go (leb (rowCount b) maxRows) refl e
     where
       many : maxRows < rowCount b → rowsSound (entries mcfg) (rowsOf b) ≡ false
       many h = rw (rows-length b, lt-leb (rowCount b) maxRows h)
@@ -49,22 +58,46 @@ module _ (mcfg b : List ℕ) where
       go true p n = rw n
       go false p n = rw (many (leb-false (rowCount b) maxRows p)) (and-off (readable b))
 
-  -- the rows in an array that has room for them
-  pub listable-starts : leb (rowCount b) maxRows && readable b ≡ true → (rows : List BridgeRow) → rows ≡ padded noRow (maxRows + 1) (rowsOf b)
-      → (startNumber (record { mcfg = mcfg; rows = take (rowCount b) rows }) ≡ bytesNumber mcfg b)
-      × (startTable (record { mcfg = mcfg; rows = take (rowCount b) rows }) ≡ bytesTable mcfg b)
-  listable-starts e rows is = rw (is, taken) (sym (starts .0), sym (starts .1))
-    where
-      starts : (bytesNumber mcfg b ≡ startNumber (lentBytes mcfg b)) × (bytesTable mcfg b ≡ startTable (lentBytes mcfg b))
-      starts = readable-starts mcfg b (and-r (leb (rowCount b) maxRows) (readable b) e)
+  -- the answer is that of rows as bytes
+  abbrev BytesAnswer : Started → Type 0
+  BytesAnswer s = (s .number ≡ bytesNumber mcfg b) × (s .table ≡ bytesTable mcfg b)
 
-      few : rowCount b ≤ maxRows
-      few = leb-true (rowCount b) maxRows (and-l (leb (rowCount b) maxRows) (readable b) e)
+  pub answered : (s : Started) → readable b ≡ true → Answer (lentBytes mcfg b) s → BytesAnswer s
+  answered s e a = let both = readable-starts mcfg b e in (a .0 ∙ sym (both .0), a .1 ∙ sym (both .1))
 
-      taken : take (rowCount b) (padded noRow (maxRows + 1) (rowsOf b)) ≡ rowsOf b
-      taken =
-          ap (λ (k : ℕ). take k (padded noRow (maxRows + 1) (rowsOf b))) (sym (rows-length b))
-          ∙ padded-take noRow (maxRows + 1) (rowsOf b) (rw (rows-length b) (omega (arith, few)))
+  -- the number that is given before a row is judged
+  module _ (n : ℕ) (is : n ≡ firstBytesNumber mcfg b) where
+    pub refused-before : (n ≡ 0 → ⊥) → BytesAnswer (withoutBridges n)
+    refused-before z = go (mcfgSound mcfg) (leb (rowCount b) maxRows && readable b) refl refl is
+      where
+        go : (p q : Bool) → mcfgSound mcfg ≡ p → leb (rowCount b) maxRows && readable b ≡ q → n ≡ firstOf ((6 if not p) ∷ (7 if not q) ∷ []) → BytesAnswer (withoutBridges n)
+        go true true e f k = absurd (z k)
+        go true false e f k = rw k (rw e at (broken (not-listable f)))
+        go false q e f k = rw k (unsound e)
+
+    pub passed-before : n ≡ 0 → (readable b ≡ true) × Reached (lentBytes mcfg b) 0 (padded noBridge maxRows [])
+    passed-before z = go (mcfgSound mcfg) (leb (rowCount b) maxRows && readable b) refl refl (sym is ∙ z)
+      where
+        go : (p q : Bool) → mcfgSound mcfg ≡ p → leb (rowCount b) maxRows && readable b ≡ q → firstOf ((6 if not p) ∷ (7 if not q) ∷ []) ≡ 0
+            → (readable b ≡ true) × Reached (lentBytes mcfg b) 0 (padded noBridge maxRows [])
+        go true true e f k = (
+          and-r (leb (rowCount b) maxRows) (readable b) f,
+          record {
+            sound = e;
+            few = rw (rows-length b) (leb-true (rowCount b) maxRows (and-l (leb (rowCount b) maxRows) (readable b) f));
+            listed = listed-none (entries mcfg) (rowsOf b);
+          },
+        )
+        go true false e f k = absurd (omega arith)
+        go false q e f k = absurd (omega arith)
+
+-- the next row judged, as start's walk takes it
+pub row-judged : (es : List Entry) (rows : List BridgeRow) (i : ℕ) (here : BridgeRow) → getD rows i noRow ≡ here
+    → (apart : Bool) → apart ≡ every (λ (q : BridgeRow). rowsApart q here) (take i rows)
+    → (n : ℕ) (b : Bridge) → n ≡ cond (rowSound es here && apart) 0 7 → b ≡ cond (rowSound es here && apart) (bridgeOf es here) noBridge
+    → (n ≡ cond (admissible es (take i rows) (getD rows i noRow)) 0 7)
+    × (b ≡ cond (admissible es (take i rows) (getD rows i noRow)) (bridgeOf es (getD rows i noRow)) noBridge)
+row-judged es rows i here h apart a n b e f = rw (h, sym a) (e, f)
 
 -- ---- bytes that are not readable start as a list that breaks a rule does
 

@@ -5,6 +5,7 @@ use mathlib.Core.Bool.{Bool, true, cond, not, _&&_}
 use mathlib.Core.List.{List, [], _∷_}
 use lib.Dec.{eqb, leb}
 use lib.ListN.{length}
+use Rattle.rules.specs.Limits.{maxRows}
 use Rattle.rules.specs.Lists.{every}
 use Rattle.rules.specs.Numbers.{byte, word, dword}
 use Rattle.rules.specs.Refusals.{Refusal, _if_, firstOf}
@@ -66,6 +67,10 @@ lentBytes mcfg b = record { mcfg = mcfg; rows = rowsOf b }
 -- "start 6, 7": bytes that are not readable break a rule of the list
 abbrev pub bytesRefusals : List ℕ → List ℕ → List Refusal
 bytesRefusals mcfg b = (6 if not (mcfgSound mcfg)) ∷ (7 if not (readable b && rowsSound (entries mcfg) (rowsOf b))) ∷ []
+
+-- what is refused before a row is judged: 7 is more rows than a table holds, or bytes that are not readable
+abbrev pub firstBytesNumber : List ℕ → List ℕ → ℕ
+firstBytesNumber mcfg b = firstOf ((6 if not (mcfgSound mcfg)) ∷ (7 if not (leb (rowCount b) maxRows && readable b)) ∷ [])
 
 -- the number that start gives of rows as bytes
 unfoldable pub bytesNumber : List ℕ → List ℕ → ℕ

@@ -2,20 +2,16 @@
 use rules::BridgeKind;
 use rules::BridgeRow;
 use rules::SessionNumber;
-use start::LIST_ROWS;
 use start::Started;
 ghost use mathlib.Core.Path.{_≡_};
-ghost use mathlib.Core.Bool.{true, not, _&&_};
-ghost use mathlib.Core.List.{[], _∷_};
+ghost use mathlib.Core.Bool.{_&&_};
 ghost use Prim.Native.Nat.{_+_, _*_, _≤_};
 ghost use lib.Dec.{leb};
-ghost use lib.ListN.{length};
+ghost use lib.ListN.{length, take};
 ghost use Rattle.rules.specs.Limits.{maxRows};
-ghost use Rattle.rules.specs.Lists.{padded};
-ghost use Rattle.rules.specs.Refusals.{_if_, firstOf};
-ghost use Rattle.rules.specs.Mcfg.{mcfgSound};
-ghost use Rattle.start.specs.Admission.{noRow};
-ghost use Rattle.row_bytes.specs.RowBytes.{kindOf, rowAt, rowCount, rowsOf, readable, bytesNumber, bytesTable};
+ghost use Rattle.rules.specs.Lists.{every};
+ghost use Rattle.rules.specs.Start.{rowsApart};
+ghost use Rattle.row_bytes.specs.RowBytes.{kindOf, rowAt, rowCount, rowsOf, readable, firstBytesNumber, bytesNumber, bytesTable};
 
 // The bytes of a row: owner 1, segment 2, first bus 1, last bus 1, kind 1, permitted 4, little-endian.
 pub const ROW_BYTES: usize = 10;
@@ -76,61 +72,55 @@ fn listable(bytes: &[u8]) -> bool
     readable(bytes)
 }
 
-// What stands past the end of a list of rows.
-fn no_row() -> BridgeRow
-    ensures { λ r. ⌜ r ≡ noRow ⌝ }
+// None of the first `i` rows shares a bus with `row`.
+fn apart_before(bytes: &[u8], i: usize, row: BridgeRow) -> bool
+    requires { ⌜ 10 * i ≤ length (now bytes) ⌝ }
+    ensures { λ r. ⌜ r ≡ every (λ q. rowsApart q row) (take i (rowsOf (now (bytes .entry)))) ⌝ }
 {
-    let owner = SessionNumber(0);
-    let kind = BridgeKind::Express;
-    BridgeRow {
-        owner,
-        segment: 0,
-        first_bus: 0,
-        last_bus: 0,
-        kind,
-        permitted: 0,
+    let mut apart = true;
+    let mut j = 0;
+    while j < i {
+        apart = apart & start::rows_apart(row_at(bytes, j), row);
+        j += 1;
     }
+    apart
 }
 
-// The rows in order, cut or filled up to the array's length.
-pub fn rows_of(bytes: &[u8]) -> [BridgeRow; LIST_ROWS]
-    ensures { λ r. ⌜ r ≡ padded noRow (maxRows + 1) (rowsOf (now (bytes .entry))) ⌝ }
-{
-    let n = bytes.len() / ROW_BYTES;
-    let none = no_row();
-    let mut rows = [none; LIST_ROWS];
-    let mut i = 0;
-    while i < LIST_ROWS {
-        if n <= i {
-            return rows;
-        }
-        rows[i] = row_at(bytes, i);
-        i += 1;
-    }
-    rows
-}
-
-// The number of a list that is refused: 6 where the MCFG table is refused first, else 7.
-fn refusal(mcfg: &[u8]) -> u8
-    ensures { λ r. ⌜ r ≡ firstOf ((6 if not (mcfgSound (now (mcfg .entry)))) ∷ (7 if true) ∷ []) ⌝ }
+// 6: the MCFG table is not sound; 7: no list of rows that a table holds; else 0.
+fn first_number(mcfg: &[u8], bytes: &[u8]) -> u8
+    ensures { λ r. ⌜ r ≡ firstBytesNumber (now (mcfg .entry)) (now (bytes .entry)) ⌝ }
 {
     if !mcfg::sound(mcfg) {
         return 6;
     }
-    7
+    if !listable(bytes) {
+        return 7;
+    }
+    0
 }
 
-// The table of the rows, or a refusal and no bridges.
+// The table of the rows, each read where it stands, or a refusal and no bridges.
 pub fn start_bytes(mcfg: &[u8], bytes: &[u8]) -> Started
     ensures { λ r. ⌜ (r .number ≡ bytesNumber (now (mcfg .entry)) (now (bytes .entry)))
         × (r .table ≡ bytesTable (now (mcfg .entry)) (now (bytes .entry))) ⌝ }
 {
-    if !listable(bytes) {
-        return Started {
-            number: refusal(mcfg),
-            table: start::no_bridges(),
-        };
+    let first = first_number(mcfg, bytes);
+    if first != 0 {
+        return start::without_bridges(first);
     }
-    let rows = rows_of(bytes);
-    lent_start::start_array(mcfg, rows, bytes.len() / ROW_BYTES)
+    let n = bytes.len() / ROW_BYTES;
+    let mut table = start::no_bridges();
+    let mut i = 0;
+    while i < n {
+        let row = row_at(bytes, i);
+        let a = start::admit(mcfg, row, apart_before(bytes, i, row));
+        if a.number != 0 {
+            return start::without_bridges(a.number);
+        }
+        let bridge = a.bridge;
+        table.bridges[i] = bridge;
+        i += 1;
+    }
+    table.count = n;
+    Started { number: 0, table }
 }
