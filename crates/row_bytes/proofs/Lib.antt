@@ -1,3 +1,4 @@
 pub mod Decoding
 pub mod Starting
+pub mod Judging
 pub mod ExampleLines

@@ -59,7 +59,7 @@ module _ (mcfg b : List ℕ) where
       go false p n = rw (many (leb-false (rowCount b) maxRows p)) (and-off (readable b))
 
   -- the answer is that of rows as bytes
-  abbrev BytesAnswer : Started → Type 0
+  abbrev pub BytesAnswer : Started → Type 0
   BytesAnswer s = (s .number ≡ bytesNumber mcfg b) × (s .table ≡ bytesTable mcfg b)
 
   pub answered : (s : Started) → readable b ≡ true → Answer (lentBytes mcfg b) s → BytesAnswer s

@@ -2,11 +2,12 @@
 use rules::BridgeKind;
 use rules::BridgeRow;
 use rules::SessionNumber;
+use rules::Table;
 use start::Started;
 ghost use mathlib.Core.Path.{_≡_};
-ghost use mathlib.Core.Bool.{_&&_};
-ghost use Prim.Native.Nat.{_+_, _*_, _≤_};
-ghost use lib.Dec.{leb};
+ghost use mathlib.Core.Bool.{cond, _&&_};
+ghost use Prim.Native.Nat.{_+_, _*_, _≤_, _<_};
+ghost use lib.Dec.{eqb, leb};
 ghost use lib.ListN.{length, take};
 ghost use Rattle.rules.specs.Limits.{maxRows};
 ghost use Rattle.rules.specs.Lists.{every};
@@ -99,28 +100,61 @@ fn first_number(mcfg: &[u8], bytes: &[u8]) -> u8
     0
 }
 
-// The table of the rows, each read where it stands, or a refusal and no bridges.
+// How many rows are judged: none of a list that is refused already.
+fn rows_to_judge(first: u8, bytes: &[u8]) -> usize
+    ensures { λ r. ⌜ r ≡ cond (eqb first 0) (rowCount (now (bytes .entry))) 0 ⌝ }
+{
+    if first == 0 {
+        return bytes.len() / ROW_BYTES;
+    }
+    0
+}
+
+// The row after row `i`; none where row `i` is refused.
+fn following(number: u8, i: usize, n: usize) -> usize
+    requires { ⌜ i < n ⌝ }
+    ensures { λ r. ⌜ r ≡ cond (eqb number 0) (i + 1) n ⌝ }
+{
+    if number == 0 {
+        return i + 1;
+    }
+    n
+}
+
+// How many bridges the table has: none where a row is refused.
+fn bridges_placed(number: u8, n: usize) -> usize
+    ensures { λ r. ⌜ r ≡ cond (eqb number 0) n 0 ⌝ }
+{
+    if number == 0 {
+        return n;
+    }
+    0
+}
+
+// The table of the rows, each read where it stands, or a refusal and no bridges. There is one return, so that the places are copied once.
 pub fn start_bytes(mcfg: &[u8], bytes: &[u8]) -> Started
     ensures { λ r. ⌜ (r .number ≡ bytesNumber (now (mcfg .entry)) (now (bytes .entry)))
         × (r .table ≡ bytesTable (now (mcfg .entry)) (now (bytes .entry))) ⌝ }
 {
     let first = first_number(mcfg, bytes);
-    if first != 0 {
-        return start::without_bridges(first);
-    }
-    let n = bytes.len() / ROW_BYTES;
-    let mut table = start::no_bridges();
+    let n = rows_to_judge(first, bytes);
+    let mut number = first;
+    let mut bridges = start::no_places();
     let mut i = 0;
     while i < n {
         let row = row_at(bytes, i);
         let a = start::admit(mcfg, row, apart_before(bytes, i, row));
-        if a.number != 0 {
-            return start::without_bridges(a.number);
-        }
         let bridge = a.bridge;
-        table.bridges[i] = bridge;
-        i += 1;
+        bridges[i] = bridge;
+        number = a.number;
+        i = following(number, i, n);
     }
-    table.count = n;
-    Started { number: 0, table }
+    if number != first {
+        bridges = start::no_places();
+    }
+    let table = Table {
+        bridges,
+        count: bridges_placed(number, n),
+    };
+    Started { table, number }
 }

@@ -135,11 +135,11 @@ pub fn no_bridges() -> Table
     Table { bridges, count: 0 }
 }
 
-// What start gives: its number, and the table.
+// What start gives: the table and its number. The table stands first, so that nothing but its rows is copied when it is handed back.
 #[repr(C)]
 pub struct Started {
-    pub number: u8,
     pub table: Table,
+    pub number: u8,
 }
 
 // A start with no bridges.
@@ -147,7 +147,7 @@ pub fn without_bridges(number: u8) -> Started
     ensures { λ r. ⌜ r ≡ withoutBridges number ⌝ }
 {
     let table = no_bridges();
-    Started { number, table }
+    Started { table, number }
 }
 
 // A start with `count` bridges.
@@ -155,5 +155,5 @@ pub fn with_bridges(bridges: [Bridge; rules::MAX_ROWS], count: usize) -> Started
     ensures { λ r. ⌜ r ≡ startedWith bridges count ⌝ }
 {
     let table = Table { bridges, count };
-    Started { number: 0, table }
+    Started { table, number: 0 }
 }
