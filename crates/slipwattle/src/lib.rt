@@ -1,5 +1,6 @@
 // The calls of document 01 on a lent table, which C and Rust link. Each works on one row where it stands: the call on the row hands back the row, and what it holds, all that a
-// call changes, is stored. Some row is read whatever the bridge number is (rows::index); the call on the row refuses a bridge that the table has not. The proofs walk the code by hand.
+// call changes, is stored where the number is 0; a refused call stores nothing in the table. Some row is read whatever the bridge number is (rows::index); the call on the row refuses a
+// bridge that the table has not. The proofs walk the code by hand.
 use hpx::Values;
 use locate::Located;
 use rows::Addressed;
@@ -67,8 +68,10 @@ pub extern "C" fn slipwattle_osc(
         caps,
         answer,
     );
-    t.bridges[i].held = done.row.held;
-    t.bridges[i].supported = done.row.supported;
+    if done.number == 0 {
+        t.bridges[i].held = done.row.held;
+        t.bridges[i].supported = done.row.supported;
+    }
     done.number
 }
 
@@ -79,8 +82,10 @@ pub extern "C" fn slipwattle_reset(t: &mut Table, s: SessionNumber, n: BridgeNum
 {
     let i = rows::index(n);
     let done = rows::reset(t.count, t.bridges[i], s, n);
-    t.bridges[i].held = done.row.held;
-    t.bridges[i].supported = done.row.supported;
+    if done.number == 0 {
+        t.bridges[i].held = done.row.held;
+        t.bridges[i].supported = done.row.supported;
+    }
     done.number
 }
 
