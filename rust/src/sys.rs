@@ -1,0 +1,241 @@
+//! The boundary itself: `include/slipwattle.h`, one to one. The header says what each call promises and what its caller sees to.
+
+#[cfg(not(all(target_arch = "x86_64", target_pointer_width = "64", not(windows))))]
+compile_error!(
+    "the proved library is machine code for x86-64 with the System V calling convention"
+);
+
+use core::mem::{offset_of, size_of};
+
+/// The most bridges that a table holds.
+pub const MAX_ROWS: usize = 16;
+/// The bytes of a row of the starting list.
+pub const ROW_BYTES: usize = 10;
+/// The registers of a type 2 record.
+pub const REGISTERS: usize = 8;
+
+/// `slipwattle_session`.
+#[repr(C)]
+#[derive(Clone, Copy, Debug, PartialEq, Eq)]
+pub struct SessionNumber {
+    /// The number.
+    pub number: u8,
+}
+
+/// `slipwattle_bridge`.
+#[repr(C)]
+#[derive(Clone, Copy, Debug, PartialEq, Eq)]
+pub struct BridgeNumber {
+    /// The number.
+    pub number: u8,
+}
+
+/// `slipwattle_row`: a host bridge as the table keeps it. For the calls alone.
+#[repr(C)]
+#[derive(Clone, Copy, Debug, PartialEq, Eq)]
+pub struct Row {
+    /// The ECAM base address of bus 0.
+    pub base: u64,
+    /// The control bits that may be granted.
+    pub permitted: u32,
+    /// The control bits that were granted.
+    pub held: u32,
+    /// The support bits that were told.
+    pub supported: u32,
+    /// The PCI segment.
+    pub segment: u16,
+    /// The session that owns the bridge.
+    pub owner: SessionNumber,
+    /// The first bus.
+    pub first_bus: u8,
+    /// The last bus.
+    pub last_bus: u8,
+}
+
+/// `slipwattle_table`: the table of host bridges. For the calls alone.
+#[repr(C)]
+#[derive(Clone, Copy, Debug, PartialEq, Eq)]
+pub struct Table {
+    /// The bridges by number.
+    pub bridges: [Row; MAX_ROWS],
+    /// How many bridges there are.
+    pub count: usize,
+}
+
+/// `slipwattle_started`.
+#[repr(C)]
+#[derive(Clone, Copy, Debug, PartialEq, Eq)]
+pub struct Started {
+    /// 0 or the refusal.
+    pub number: u8,
+    /// The new table.
+    pub table: Table,
+}
+
+/// `slipwattle_holding`.
+#[repr(C)]
+#[derive(Clone, Copy, Debug, PartialEq, Eq)]
+pub struct Holding {
+    /// The held control bits.
+    pub held: u32,
+    /// The supported bits.
+    pub supported: u32,
+}
+
+/// `slipwattle_reported`.
+#[repr(C)]
+#[derive(Clone, Copy, Debug, PartialEq, Eq)]
+pub struct Reported {
+    /// 0 or the refusal.
+    pub number: u8,
+    /// What the bridge holds.
+    pub holding: Holding,
+}
+
+/// `slipwattle_addressed`.
+#[repr(C)]
+#[derive(Clone, Copy, Debug, PartialEq, Eq)]
+pub struct Addressed {
+    /// 0 or the refusal.
+    pub number: u8,
+    /// The ECAM address.
+    pub address: u64,
+}
+
+/// `slipwattle_place`.
+#[repr(C)]
+#[derive(Clone, Copy, Debug, PartialEq, Eq)]
+pub struct Place {
+    /// The bridge.
+    pub bridge: BridgeNumber,
+    /// The bus.
+    pub bus: u8,
+    /// The device.
+    pub device: u8,
+    /// The function.
+    pub function: u8,
+    /// The offset in the function's configuration space.
+    pub offset: u16,
+}
+
+/// `slipwattle_located`.
+#[repr(C)]
+#[derive(Clone, Copy, Debug, PartialEq, Eq)]
+pub struct Located {
+    /// 0 or the refusal.
+    pub number: u8,
+    /// The place.
+    pub place: Place,
+}
+
+/// `slipwattle_record`: where a record lies in the block that decided.
+#[repr(C)]
+#[derive(Clone, Copy, Debug, PartialEq, Eq)]
+pub struct RecordAt {
+    /// 0 or the refusal.
+    pub number: u8,
+    /// Whether the slot's block decided.
+    pub in_slot: bool,
+    /// The byte where the record starts.
+    pub start: usize,
+    /// Its length, header included.
+    pub size: usize,
+}
+
+/// `slipwattle_values`.
+#[repr(C)]
+#[derive(Clone, Copy, Debug, PartialEq, Eq)]
+pub struct Values {
+    /// 0 or the refusal.
+    pub number: u8,
+    /// The new register values.
+    pub values: [u32; REGISTERS],
+}
+
+// The layout that the calls are compiled for; tests/c/boundary.c has the same numbers for the header.
+const _: () = {
+    assert!(size_of::<SessionNumber>() == 1 && size_of::<BridgeNumber>() == 1);
+    assert!(size_of::<Row>() == 32);
+    assert!(offset_of!(Row, segment) == 20 && offset_of!(Row, last_bus) == 24);
+    assert!(size_of::<Table>() == 520 && offset_of!(Table, count) == 512);
+    assert!(size_of::<Started>() == 528 && offset_of!(Started, table) == 8);
+    assert!(size_of::<Reported>() == 12 && offset_of!(Reported, holding) == 4);
+    assert!(size_of::<Addressed>() == 16 && offset_of!(Addressed, address) == 8);
+    assert!(size_of::<Place>() == 6 && offset_of!(Place, offset) == 4);
+    assert!(size_of::<Located>() == 8 && offset_of!(Located, place) == 2);
+    assert!(size_of::<RecordAt>() == 24 && offset_of!(RecordAt, in_slot) == 1);
+    assert!(offset_of!(RecordAt, start) == 8 && offset_of!(RecordAt, size) == 16);
+    assert!(size_of::<Values>() == 36 && offset_of!(Values, values) == 4);
+};
+
+unsafe extern "C" {
+    /// Starts a table.
+    pub fn slipwattle_start(
+        mcfg: *const u8,
+        mcfg_length: usize,
+        rows: *const u8,
+        rows_length: usize,
+    ) -> Started;
+
+    /// Answers an _OSC call.
+    pub fn slipwattle_osc(
+        table: *mut Table,
+        session: SessionNumber,
+        bridge: BridgeNumber,
+        revision: u32,
+        count: u32,
+        uuid: *const u8,
+        uuid_length: usize,
+        capabilities: *const u8,
+        capabilities_length: usize,
+        answer: *mut u8,
+        answer_length: usize,
+    ) -> u8;
+
+    /// Sets the bridge's held and supported bits to 0.
+    pub fn slipwattle_reset(table: *mut Table, session: SessionNumber, bridge: BridgeNumber) -> u8;
+
+    /// Hands back the bridge's held and supported bits.
+    pub fn slipwattle_report(
+        table: *mut Table,
+        session: SessionNumber,
+        bridge: BridgeNumber,
+    ) -> Reported;
+
+    /// The ECAM address of a place.
+    pub fn slipwattle_address(
+        table: *mut Table,
+        session: SessionNumber,
+        bridge: BridgeNumber,
+        bus: u8,
+        device: u8,
+        function: u8,
+        offset: u16,
+        width: u8,
+    ) -> Addressed;
+
+    /// Reads an address back.
+    pub fn slipwattle_locate(table: *mut Table, session: SessionNumber, address: u64) -> Located;
+
+    /// Finds the revision 1 _HPX setting record of a type.
+    pub fn slipwattle_find_record(
+        slot: *const u8,
+        slot_length: usize,
+        bridge_block: *const u8,
+        bridge_block_length: usize,
+        record_type: u8,
+    ) -> RecordAt;
+
+    /// The new register values by the type 2 record of the blocks.
+    pub fn slipwattle_register_values(
+        table: *mut Table,
+        session: SessionNumber,
+        bridge: BridgeNumber,
+        slot: *const u8,
+        slot_length: usize,
+        bridge_block: *const u8,
+        bridge_block_length: usize,
+        current: *const u32,
+        current_length: usize,
+    ) -> Values;
+}
