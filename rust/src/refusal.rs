@@ -106,9 +106,8 @@ impl core::error::Error for Refusal {}
 
 /// The number of a call as a result. No call gives a number above 11.
 pub(crate) fn done(number: u8) -> Result<(), Refusal> {
-    match Refusal::try_from(number) {
-        Ok(refusal) => Err(refusal),
-        Err(0) => Ok(()),
-        Err(other) => unreachable!("a call gave the number {other}"),
+    if number == 0 {
+        return Ok(());
     }
+    Err(Refusal::try_from(number).unwrap_or_else(|n| unreachable!("a call gave the number {n}")))
 }

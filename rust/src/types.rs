@@ -1,7 +1,7 @@
 //! What the calls take and hand back.
 use crate::sys;
 
-/// A session number. It does not stand for a bridge number:
+/// A session number. A bridge number does not pass for it:
 ///
 /// ```compile_fail,E0308
 #[doc = include_str!("example_start.txt")]
