@@ -152,7 +152,7 @@ pub struct Values {
     pub values: [u32; REGISTERS],
 }
 
-// The layout that the calls are compiled for; tests/c/boundary.c has the same numbers for the header.
+// The layout that the calls are compiled for; tests/c/boundary.c has the same numbers.
 const _: () = {
     assert!(size_of::<SessionNumber>() == 1 && size_of::<BridgeNumber>() == 1);
     assert!(size_of::<Row>() == 32);

@@ -71,14 +71,16 @@ fn start_hands_over_every_field_of_a_row() {
 }
 
 #[test]
-fn start_takes_16_rows() {
+fn start_takes_0_to_16_rows() {
     let one_bus = |bus| BridgeRow {
         first_bus: bus,
         last_bus: bus,
         ..row(1)
     };
     let rows: Vec<BridgeRow> = (0..40).map(one_bus).collect();
-    assert_eq!(Table::start(&mcfg(), &rows[..16]).unwrap().len(), 16);
+    assert!(Table::start(&mcfg(), &[]).unwrap().is_empty());
+    let most = Table::start(&mcfg(), &rows[..16]).unwrap();
+    assert_eq!((most.len(), most.is_empty()), (16, false));
     for count in [17, 18, 40] {
         let refused = Table::start(&mcfg(), &rows[..count]).unwrap_err();
         assert_eq!(refused, Refusal::Rows);

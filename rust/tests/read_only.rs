@@ -27,7 +27,7 @@ const ROW: Row = Row {
     base: 0xE000_0000,
     permitted: 0x1F,
     held: 0x11,
-    supported: 0x1F,
+    supported: 0x0F,
     segment: 0,
     owner: OWNER,
     first_bus: 0,
@@ -53,7 +53,7 @@ fn lent() -> *mut Table {
 fn it_is_a_table_of_start() {
     let mcfg = mcfg();
     let rows = [1, 0, 0, 0, 15, 0, 0x1F, 0, 0, 0];
-    let take = [0, 0, 0, 0, 0x1F, 0, 0, 0, 0x11, 0, 0, 0];
+    let take = [0, 0, 0, 0, 0x0F, 0, 0, 0, 0x11, 0, 0, 0];
     let mut answer = [0; 12];
     // SAFETY: each pointer leads to its length of bytes; the table comes from the start, and overlaps no buffer.
     let table = unsafe {

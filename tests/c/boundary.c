@@ -18,15 +18,18 @@ static int failures = 0;
         }                                                  \
     } while (0)
 
-/* The layout that the calls are compiled for. */
+/* The layout that the calls are compiled for; rust/src/sys.rs has the same numbers. */
 #define LAYOUT(name, test) typedef char layout_##name[(test) ? 1 : -1]
+LAYOUT(numbers, sizeof(slipwattle_session) == 1 && sizeof(slipwattle_bridge) == 1);
 LAYOUT(row, sizeof(slipwattle_row) == 32 && offsetof(slipwattle_row, segment) == 20 && offsetof(slipwattle_row, last_bus) == 24);
-LAYOUT(table, sizeof(slipwattle_table) == 32 * SLIPWATTLE_MAX_ROWS + 8 && offsetof(slipwattle_table, count) == 32 * SLIPWATTLE_MAX_ROWS);
-LAYOUT(started, offsetof(slipwattle_started, table) == 8);
+LAYOUT(table, sizeof(slipwattle_table) == 520 && offsetof(slipwattle_table, count) == 512);
+LAYOUT(started, sizeof(slipwattle_started) == 528 && offsetof(slipwattle_started, table) == 8);
 LAYOUT(reported, sizeof(slipwattle_reported) == 12 && offsetof(slipwattle_reported, holding) == 4);
 LAYOUT(addressed, sizeof(slipwattle_addressed) == 16 && offsetof(slipwattle_addressed, address) == 8);
-LAYOUT(located, sizeof(slipwattle_located) == 8 && offsetof(slipwattle_located, place) == 2 && offsetof(slipwattle_place, offset) == 4);
-LAYOUT(record, sizeof(slipwattle_record) == 24 && offsetof(slipwattle_record, in_slot) == 1 && offsetof(slipwattle_record, size) == 16);
+LAYOUT(place, sizeof(slipwattle_place) == 6 && offsetof(slipwattle_place, offset) == 4);
+LAYOUT(located, sizeof(slipwattle_located) == 8 && offsetof(slipwattle_located, place) == 2);
+LAYOUT(record, sizeof(slipwattle_record) == 24 && offsetof(slipwattle_record, in_slot) == 1);
+LAYOUT(part, offsetof(slipwattle_record, start) == 8 && offsetof(slipwattle_record, size) == 16);
 LAYOUT(values, sizeof(slipwattle_values) == 36 && offsetof(slipwattle_values, values) == 4);
 
 static const uint8_t UUID[16] = {0x5B, 0x4D, 0xDB, 0x33, 0xF7, 0x1F, 0x1C, 0x40, 0x96, 0x57, 0x74, 0x41, 0xC0, 0x3D, 0xD7, 0x66};
