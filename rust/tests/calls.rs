@@ -7,6 +7,7 @@ use slipwattle::{
 };
 
 const CLASS: SessionNumber = SessionNumber(1);
+const LIVE: SessionNumber = SessionNumber(2);
 const CLASS_BRIDGE: BridgeNumber = BridgeNumber(0);
 const LIVE_BRIDGE: BridgeNumber = BridgeNumber(1);
 /// A type 1 record.
@@ -105,16 +106,16 @@ fn held_bits_come_by_osc_and_leave_by_reset() {
 #[test]
 fn an_address_is_read_back() {
     let table = table();
-    let address = table.address(CLASS, CLASS_BRIDGE, 1, 2, 3, 0x10, 4);
-    assert_eq!(address, Ok(0xE011_3010));
+    let address = table.address(LIVE, LIVE_BRIDGE, 17, 2, 3, 0x10, 4);
+    assert_eq!(address, Ok(0xE111_3010));
     let place = Place {
-        bridge: CLASS_BRIDGE,
-        bus: 1,
+        bridge: LIVE_BRIDGE,
+        bus: 17,
         device: 2,
         function: 3,
         offset: 0x10,
     };
-    assert_eq!(table.locate(CLASS, 0xE011_3010), Ok(place));
+    assert_eq!(table.locate(LIVE, 0xE111_3010), Ok(place));
 }
 
 #[test]
