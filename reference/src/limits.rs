@@ -1,0 +1,20 @@
+//! The limits of document 01, each named once.
+
+/// Most rows of a starting list, so most bridges of a table.
+pub(crate) const MAX_ROWS: usize = 16;
+/// Most entries of an MCFG table.
+pub(crate) const MAX_ENTRIES: usize = 16;
+/// Highest session number that may own a bridge.
+pub(crate) const MAX_OWNER: u8 = 15;
+/// Most bytes of a record block.
+pub(crate) const MAX_BLOCK: usize = 1024;
+/// Most DWORDs of an _OSC call.
+pub(crate) const MAX_COUNT: u32 = 8;
+/// Highest device number on a bus.
+pub(crate) const MAX_DEVICE: u8 = 31;
+/// Highest function number of a device.
+pub(crate) const MAX_FUNCTION: u8 = 7;
+/// Highest offset in the configuration space of a function.
+pub(crate) const MAX_OFFSET: u16 = 4095;
+/// Highest value of a 16-bit register.
+pub(crate) const MAX_WORD: u32 = 65535;

@@ -1,0 +1,43 @@
+//! Register values from the PCI Express setting record.
+
+use core::ops::Range;
+
+use crate::limits::MAX_WORD;
+use crate::osc::{AER, EXPRESS_HOT_PLUG};
+use crate::records::{PCI_EXPRESS, search};
+use crate::refusal::Refusal;
+use crate::table::Bridge;
+
+/// The registers of the PCI Express setting record.
+const REGISTERS: usize = 8;
+/// All of them.
+const ALL: Range<usize> = 0..REGISTERS;
+/// Device Control and Link Control, the 16-bit registers; the other six are error registers.
+const CONTROL: Range<usize> = 4..6;
+
+impl Bridge {
+    /// The new register values, or refusal 11, 10, 8 or 9.
+    #[inline]
+    pub(crate) fn register_values(
+        &self,
+        slot: &[u8],
+        bridge_block: &[u8],
+        current: &[u32],
+    ) -> Result<[u32; REGISTERS], Refusal> {
+        let held = u32::from(self.held);
+        if held & EXPRESS_HOT_PLUG == 0 {
+            return Err(Refusal::NoHotPlug);
+        }
+        let mut values: [u32; REGISTERS] = current.try_into().map_err(|_| Refusal::Registers)?;
+        if values[CONTROL].iter().any(|&value| value > MAX_WORD) {
+            return Err(Refusal::Registers);
+        }
+        let record = search(slot, bridge_block, PCI_EXPRESS)?;
+        let (pairs, _) = record.numbers.as_chunks::<2>();
+        let set = if held & AER == 0 { ALL } else { CONTROL };
+        for (value, [and_mask, or_mask]) in values[set.clone()].iter_mut().zip(&pairs[set]) {
+            *value = (*value & u32::from_le_bytes(*and_mask)) | u32::from_le_bytes(*or_mask);
+        }
+        Ok(values)
+    }
+}

@@ -1,0 +1,107 @@
+//! Refusal numbers, and which comes first when two conditions hold.
+
+use crate::build::*;
+use reference::{BridgeNumber, Refusal, SessionNumber, Table};
+
+#[test]
+fn numbers() {
+    let all = [
+        Refusal::NoSuchBridge,
+        Refusal::NotOwner,
+        Refusal::Framing,
+        Refusal::NoSuchBus,
+        Refusal::BadPlace,
+        Refusal::Mcfg,
+        Refusal::Rows,
+        Refusal::RecordBlock,
+        Refusal::NoRecord,
+        Refusal::Registers,
+        Refusal::NoHotPlug,
+    ];
+    assert!(all.map(Refusal::number).into_iter().eq(1..=11));
+}
+
+#[test]
+fn start_6_then_7() {
+    let bad_row = [row(1, 0, 0)];
+    let mut bad_mcfg = mcfg(&[(BASE, 0, 0, 255)]);
+    bad_mcfg[9] ^= 1;
+    assert_eq!(Table::start(&bad_mcfg, &bad_row).err(), Some(Refusal::Mcfg));
+    assert_eq!(
+        Table::start_bytes(&bad_mcfg, &[0]).err(),
+        Some(Refusal::Mcfg)
+    );
+    assert_eq!(start(&[], &bad_row).err(), Some(Refusal::Rows));
+}
+
+/// An _OSC call that is wrong in every way from the given number on.
+fn wrong_osc(session: SessionNumber, bridge: BridgeNumber) -> Result<(), Refusal> {
+    let mut table = one_bridge(0x1F);
+    let before = format!("{table:?}");
+    let mut answer = [UNTOUCHED; 12];
+    let result = table.osc(session, bridge, 2, 9, &[], &[0; 5], &mut answer);
+    assert_eq!(answer, [UNTOUCHED; 12]);
+    assert_eq!(format!("{table:?}"), before);
+    result
+}
+
+#[test]
+fn osc_1_2_3() {
+    assert_eq!(wrong_osc(STRANGER, ABSENT), Err(Refusal::NoSuchBridge));
+    assert_eq!(
+        wrong_osc(STRANGER, BridgeNumber(1)),
+        Err(Refusal::NoSuchBridge)
+    );
+    assert_eq!(wrong_osc(STRANGER, BRIDGE), Err(Refusal::NotOwner));
+    assert_eq!(wrong_osc(OWNER, BRIDGE), Err(Refusal::Framing));
+}
+
+#[test]
+fn stranger_takes_nothing() {
+    let mut table = one_bridge(0x1F);
+    let before = format!("{table:?}");
+    let mut answer = [UNTOUCHED; 12];
+    let capabilities = dwords(&[0, 0x1F, 0x1F]);
+    let refused = table.osc(STRANGER, BRIDGE, 1, 3, &UUID, &capabilities, &mut answer);
+    assert_eq!(refused, Err(Refusal::NotOwner));
+    assert_eq!(answer, [UNTOUCHED; 12]);
+    assert_eq!(format!("{table:?}"), before);
+}
+
+#[test]
+fn reset_and_report_1_2() {
+    let mut table = holding(0x1F, 0x1F);
+    assert_eq!(table.reset(STRANGER, ABSENT), Err(Refusal::NoSuchBridge));
+    assert_eq!(table.reset(STRANGER, BRIDGE), Err(Refusal::NotOwner));
+    assert_eq!(table.report(STRANGER, ABSENT), Err(Refusal::NoSuchBridge));
+    assert_eq!(table.report(STRANGER, BRIDGE), Err(Refusal::NotOwner));
+    assert_eq!(held(&table), 0x1F);
+}
+
+#[test]
+fn address_1_2_5_4() {
+    let table = start(&[(BASE, 0, 0, 255)], &[row(2, 5, 0)]).unwrap();
+    let at = |session, bridge, device| table.address(session, bridge, 9, device, 0, 0, 4);
+    assert_eq!(at(STRANGER, ABSENT, 32), Err(Refusal::NoSuchBridge));
+    assert_eq!(at(STRANGER, BRIDGE, 32), Err(Refusal::NotOwner));
+    assert_eq!(at(OWNER, BRIDGE, 32), Err(Refusal::BadPlace));
+    assert_eq!(at(OWNER, BRIDGE, 31), Err(Refusal::NoSuchBus));
+}
+
+#[test]
+fn register_values_1_2_11_10_8_9() {
+    let none = one_bridge(0x1F);
+    let hot_plug = holding(0x1F, 0x11);
+    let (unsound, sound) = ([0, 3, 0], pci());
+    let (short, full) = ([0; 7], [0; 8]);
+    let refused = |table: &Table, session, bridge, block: &[u8], current: &[u32]| {
+        let values = table.register_values(session, bridge, block, &[], current);
+        values.unwrap_err().number()
+    };
+    assert_eq!(refused(&none, STRANGER, ABSENT, &unsound, &short), 1);
+    assert_eq!(refused(&none, STRANGER, BRIDGE, &unsound, &short), 2);
+    assert_eq!(refused(&none, OWNER, BRIDGE, &unsound, &short), 11);
+    assert_eq!(refused(&hot_plug, OWNER, BRIDGE, &unsound, &short), 10);
+    assert_eq!(refused(&hot_plug, OWNER, BRIDGE, &unsound, &full), 8);
+    assert_eq!(refused(&hot_plug, OWNER, BRIDGE, &sound, &full), 9);
+}
