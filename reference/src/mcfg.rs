@@ -4,7 +4,6 @@ use crate::buses::BusRange;
 use crate::limits::MAX_ENTRIES;
 use crate::list::List;
 use crate::place::{BUS_BYTES, bus_start};
-use crate::refusal::Refusal;
 
 /// The letters at the start of the table.
 const SIGNATURE: &[u8; 4] = b"MCFG";
@@ -18,10 +17,12 @@ const ENTRY_BYTES: usize = 16;
 /// The entries of a sound MCFG table.
 pub(crate) type Entries = List<Entry, MAX_ENTRIES>;
 
-/// One entry: the buses and the address that bus 0 has or would have.
+/// One entry: the address that bus 0 has or would have, the buses and their window.
 #[derive(Clone, Copy, Debug)]
 pub(crate) struct Entry {
     pub(crate) base: u64,
+    first_address: u64,
+    last_address: u64,
     pub(crate) buses: BusRange,
 }
 
@@ -29,6 +30,8 @@ impl Entry {
     /// Fills list places that are not taken.
     const UNUSED: Entry = Entry {
         base: 0,
+        first_address: 0,
+        last_address: 0,
         buses: BusRange::UNUSED,
     };
 
@@ -37,33 +40,31 @@ impl Entry {
         let [b0, b1, b2, b3, b4, b5, b6, b7, s0, s1, start, end, ..] = *bytes;
         let base = u64::from_le_bytes([b0, b1, b2, b3, b4, b5, b6, b7]);
         let buses = BusRange::new(u16::from_le_bytes([s0, s1]), start, end)?;
-        // The base is aligned, so the window ends at most at 2^64 when its last bus starts below.
-        let fits = base.is_multiple_of(BUS_BYTES) && base.checked_add(bus_start(end)).is_some();
-        fits.then_some(Entry { base, buses })
+        // The window may end at 2^64, so it is kept by its last address and not by its end.
+        let last_address = base.checked_add(bus_start(end) | (BUS_BYTES - 1))?;
+        base.is_multiple_of(BUS_BYTES).then_some(Entry {
+            base,
+            first_address: base + bus_start(start),
+            last_address,
+            buses,
+        })
     }
 
-    /// The first and the last address of the window.
-    fn window(&self) -> (u64, u64) {
-        let first = self.base + bus_start(self.buses.first);
-        let last = self.base + (bus_start(self.buses.last) | (BUS_BYTES - 1));
-        (first, last)
-    }
-
-    /// Whether the two entries have a bus or an address in common.
+    /// Whether the two entries have an address or a bus in common.
     fn collides(&self, other: &Entry) -> bool {
-        let (first, last) = self.window();
-        let (other_first, other_last) = other.window();
-        (first <= other_last && other_first <= last) || self.buses.shares_bus(other.buses)
+        let share_address =
+            self.first_address <= other.last_address && other.first_address <= self.last_address;
+        share_address || self.buses.shares_bus(other.buses)
     }
 }
 
-/// The entries of a table, or refusal 6 when it is unsound.
-pub(crate) fn read(mcfg: &[u8]) -> Result<Entries, Refusal> {
-    sound_entries(mcfg).ok_or(Refusal::Mcfg)
+/// No entries, to be filled by `read`.
+pub(crate) fn no_entries() -> Entries {
+    Entries::new(Entry::UNUSED)
 }
 
-/// The entries of a table, when it is sound.
-fn sound_entries(mcfg: &[u8]) -> Option<Entries> {
+/// Adds the entries of a table, in place; `None` when the table is unsound.
+pub(crate) fn read(mcfg: &[u8], entries: &mut Entries) -> Option<()> {
     let (header, body) = mcfg.split_first_chunk::<HEADER_BYTES>()?;
     let [m, c, f, g, l0, l1, l2, l3, revision, ..] = *header;
     let length = u32::from_le_bytes([l0, l1, l2, l3]);
@@ -78,7 +79,6 @@ fn sound_entries(mcfg: &[u8]) -> Option<Entries> {
     if !sound {
         return None;
     }
-    let mut entries = Entries::new(Entry::UNUSED);
     for bytes in body {
         let entry = Entry::read(bytes)?;
         if entries.iter().any(|earlier| earlier.collides(&entry)) {
@@ -86,5 +86,5 @@ fn sound_entries(mcfg: &[u8]) -> Option<Entries> {
         }
         entries.push(entry)?;
     }
-    Some(entries)
+    Some(())
 }

@@ -36,9 +36,10 @@ pub struct BridgeRow {
 }
 
 impl BridgeRow {
-    /// Reads a row; `None` when the kind is neither 0 nor 1.
-    pub(crate) fn read(bytes: &[u8; ROW_BYTES]) -> Option<BridgeRow> {
-        let [owner, s0, s1, first_bus, last_bus, kind, p0, p1, p2, p3] = *bytes;
+    /// Reads a row; `None` when it is cut short or the kind is neither 0 nor 1.
+    pub(crate) fn read(bytes: &[u8]) -> Option<BridgeRow> {
+        let bytes: [u8; ROW_BYTES] = bytes.try_into().ok()?;
+        let [owner, s0, s1, first_bus, last_bus, kind, p0, p1, p2, p3] = bytes;
         Some(BridgeRow {
             owner: SessionNumber(owner),
             segment: u16::from_le_bytes([s0, s1]),

@@ -5,7 +5,7 @@ use core::ops::Deref;
 use crate::buses::BusRange;
 use crate::limits::MAX_ROWS;
 use crate::list::List;
-use crate::mcfg::{self, Entries};
+use crate::mcfg;
 use crate::osc::OscCall;
 use crate::place::Place;
 use crate::refusal::Refusal;
@@ -81,28 +81,26 @@ impl Table {
     /// Starts a table from rows, or gives refusal 6 or 7.
     #[inline(never)]
     pub fn start(mcfg: &[u8], rows: &[BridgeRow]) -> Result<Table, Refusal> {
-        let entries = mcfg::read(mcfg)?;
-        Table::from_rows(&entries, rows.iter().copied().map(Some))
+        Table::from_rows(mcfg, rows.iter().copied().map(Some))
     }
 
     /// Starts a table from rows lent as bytes, ten for each, or gives refusal 6 or 7.
     #[inline(never)]
     pub fn start_bytes(mcfg: &[u8], rows: &[u8]) -> Result<Table, Refusal> {
-        let entries = mcfg::read(mcfg)?;
-        let (rows, []) = rows.as_chunks::<ROW_BYTES>() else {
-            return Err(Refusal::Rows);
-        };
-        Table::from_rows(&entries, rows.iter().map(BridgeRow::read))
+        Table::from_rows(mcfg, rows.chunks(ROW_BYTES).map(BridgeRow::read))
     }
 
-    /// The table of a sound list of rows; `None` stands for a row that could not be read.
+    /// Starts a table; `None` stands for a row that could not be read.
+    #[inline]
     fn from_rows(
-        entries: &Entries,
+        mcfg: &[u8],
         rows: impl Iterator<Item = Option<BridgeRow>>,
     ) -> Result<Table, Refusal> {
+        let mut entries = mcfg::no_entries();
+        mcfg::read(mcfg, &mut entries).ok_or(Refusal::Mcfg)?;
         let mut table = Table::empty();
         for row in rows {
-            let bridge = row.and_then(|row| row.bridge(entries));
+            let bridge = row.and_then(|row| row.bridge(&entries));
             let added = bridge.and_then(|bridge| table.add(bridge));
             added.ok_or(Refusal::Rows)?;
         }
