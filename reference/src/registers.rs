@@ -10,9 +10,7 @@ use crate::table::Bridge;
 
 /// The registers of the PCI Express setting record.
 const REGISTERS: usize = 8;
-/// All of them.
-const ALL: Range<usize> = 0..REGISTERS;
-/// Device Control and Link Control, the 16-bit registers; the other six are error registers.
+/// Device Control and Link Control, the 16-bit registers; the other six are the error registers.
 const CONTROL: Range<usize> = 4..6;
 
 impl Bridge {
@@ -28,16 +26,21 @@ impl Bridge {
         if held & EXPRESS_HOT_PLUG == 0 {
             return Err(Refusal::NoHotPlug);
         }
-        let mut values: [u32; REGISTERS] = current.try_into().map_err(|_| Refusal::Registers)?;
-        if values[CONTROL].iter().any(|&value| value > MAX_WORD) {
+        let current: &[u32; REGISTERS] = current.try_into().map_err(|_| Refusal::Registers)?;
+        if current[CONTROL].iter().any(|&value| value > MAX_WORD) {
             return Err(Refusal::Registers);
         }
         let record = search(slot, bridge_block, PCI_EXPRESS)?;
         let (pairs, _) = record.numbers.as_chunks::<2>();
-        let set = if held & AER == 0 { ALL } else { CONTROL };
-        for (value, [and_mask, or_mask]) in values[set.clone()].iter_mut().zip(&pairs[set]) {
+        let mut masked = *current;
+        for (value, [and_mask, or_mask]) in masked.iter_mut().zip(pairs) {
             *value = (*value & u32::from_le_bytes(*and_mask)) | u32::from_le_bytes(*or_mask);
         }
+        if held & AER == 0 {
+            return Ok(masked);
+        }
+        let mut values = *current;
+        values[CONTROL].copy_from_slice(&masked[CONTROL]);
         Ok(values)
     }
 }
