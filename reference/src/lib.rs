@@ -1,6 +1,6 @@
-//! Document 01 in ordinary Rust: the program that the random trials and the timings compare with.
+//! Document 01 in ordinary Rust: what the random trials and the timings compare with.
 //!
-//! Written from the document alone. The modules follow its sections.
+//! It shares nothing with the proved program but the document, whose sections the modules follow.
 #![no_std]
 #![forbid(unsafe_code)]
 

@@ -3,7 +3,7 @@
 use crate::build::*;
 use reference::{Holding, Refusal, SessionNumber, Table, granted};
 
-/// Calls with this framing on untouched memory, and says what is left when it is refused.
+/// Calls with this Count and these lengths; the answer buffer is full or, when refused, untouched.
 fn framing(count: u32, uuid: usize, capabilities: usize, answer: usize) -> Result<(), Refusal> {
     let mut table = one_bridge(0x1F);
     let before = format!("{table:?}");

@@ -96,16 +96,14 @@ fn bytes_left_over_or_missing() {
 fn the_same_record_twice() {
     for twice in [pci(), pci_x(), express(1, 2)] {
         assert!(sound(&twice));
-        assert!(!sound(
-            &[&twice[..], &pci_or_other(&twice), &twice].concat()
-        ));
+        assert!(!sound(&[&twice[..], &other_type(&twice), &twice].concat()));
     }
     let old = record(1, &[2]);
     assert!(sound(&[&old[..], &pci_x(), &old].concat()));
 }
 
 /// A record of another type than the given one.
-fn pci_or_other(record: &[u8]) -> Vec<u8> {
+fn other_type(record: &[u8]) -> Vec<u8> {
     if record[0] == 0 { pci_x() } else { pci() }
 }
 

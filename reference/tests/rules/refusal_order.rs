@@ -34,7 +34,7 @@ fn start_6_then_7() {
     assert_eq!(start(&[], &bad_row).err(), Some(Refusal::Rows));
 }
 
-/// An _OSC call that is wrong in every way from the given number on.
+/// An _OSC call with wrong framing, which leaves table and answer as they were.
 fn wrong_osc(session: SessionNumber, bridge: BridgeNumber) -> Result<(), Refusal> {
     let mut table = one_bridge(0x1F);
     let before = format!("{table:?}");
