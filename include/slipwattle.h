@@ -65,8 +65,8 @@ typedef struct {
 } slipwattle_table;
 
 typedef struct {
-    uint8_t number;
     slipwattle_table table;
+    uint8_t number;
 } slipwattle_started;
 
 /* Starts a table. Refusals: 6, 7; a refused start gives a table with no bridges, on which every call may be made.

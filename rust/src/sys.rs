@@ -66,10 +66,10 @@ pub struct Table {
 #[repr(C)]
 #[derive(Clone, Copy, Debug, PartialEq, Eq)]
 pub struct Started {
-    /// 0 or the refusal.
-    pub number: u8,
     /// The new table.
     pub table: Table,
+    /// 0 or the refusal.
+    pub number: u8,
 }
 
 /// `slipwattle_holding`.
@@ -158,7 +158,7 @@ const _: () = {
     assert!(size_of::<Row>() == 32);
     assert!(offset_of!(Row, segment) == 20 && offset_of!(Row, last_bus) == 24);
     assert!(size_of::<Table>() == 520 && offset_of!(Table, count) == 512);
-    assert!(size_of::<Started>() == 528 && offset_of!(Started, table) == 8);
+    assert!(size_of::<Started>() == 528 && offset_of!(Started, number) == 520);
     assert!(size_of::<Reported>() == 12 && offset_of!(Reported, holding) == 4);
     assert!(size_of::<Addressed>() == 16 && offset_of!(Addressed, address) == 8);
     assert!(size_of::<Place>() == 6 && offset_of!(Place, offset) == 4);

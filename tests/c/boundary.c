@@ -23,7 +23,7 @@ static int failures = 0;
 LAYOUT(numbers, sizeof(slipwattle_session) == 1 && sizeof(slipwattle_bridge) == 1);
 LAYOUT(row, sizeof(slipwattle_row) == 32 && offsetof(slipwattle_row, segment) == 20 && offsetof(slipwattle_row, last_bus) == 24);
 LAYOUT(table, sizeof(slipwattle_table) == 520 && offsetof(slipwattle_table, count) == 512);
-LAYOUT(started, sizeof(slipwattle_started) == 528 && offsetof(slipwattle_started, table) == 8);
+LAYOUT(started, sizeof(slipwattle_started) == 528 && offsetof(slipwattle_started, number) == 520);
 LAYOUT(reported, sizeof(slipwattle_reported) == 12 && offsetof(slipwattle_reported, holding) == 4);
 LAYOUT(addressed, sizeof(slipwattle_addressed) == 16 && offsetof(slipwattle_addressed, address) == 8);
 LAYOUT(place, sizeof(slipwattle_place) == 6 && offsetof(slipwattle_place, offset) == 4);
