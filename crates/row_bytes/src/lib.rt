@@ -78,13 +78,14 @@ fn apart_before(bytes: &[u8], i: usize, row: BridgeRow) -> bool
     requires { ⌜ 10 * i ≤ length (now bytes) ⌝ }
     ensures { λ r. ⌜ r ≡ every (λ q. rowsApart q row) (take i (rowsOf (now (bytes .entry)))) ⌝ }
 {
-    let mut apart = true;
     let mut j = 0;
     while j < i {
-        apart = apart & start::rows_apart(row_at(bytes, j), row);
+        if !start::rows_apart(row_at(bytes, j), row) {
+            return false;
+        }
         j += 1;
     }
-    apart
+    true
 }
 
 // 6: the MCFG table is not sound; 7: no list of rows that a table holds; else 0.
