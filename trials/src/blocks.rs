@@ -1,0 +1,199 @@
+//! Record blocks: sound ones, and ones that break a rule or stand at its edge.
+
+use std::ops::Range;
+
+use crate::random::Random;
+
+pub const MOST_BYTES: usize = 1024;
+
+/// The greatest value of each number after the revision, by record type.
+const LIMITS: [&[u32]; 3] = [&[255, 255, 1, 1], &[3, 7, 7], &REGISTER_LIMITS];
+const ANY: u32 = u32::MAX;
+const REGISTER_LIMITS: [u32; 16] = [
+    ANY, ANY, ANY, ANY, ANY, ANY, ANY, ANY, 0xFFFF, 0xFFFF, 0xFFFF, 0xFFFF, ANY, ANY, ANY, ANY,
+];
+
+/// A field: tag, length, value.
+pub fn field(tag: u8, value: &[u8]) -> Vec<u8> {
+    let mut bytes = vec![tag];
+    bytes.extend_from_slice(&(value.len() as u16).to_le_bytes());
+    bytes.extend_from_slice(value);
+    bytes
+}
+
+/// A field whose value is the revision and these numbers.
+pub fn numbers_field(tag: u8, revision: u32, numbers: &[u32]) -> Vec<u8> {
+    let mut value = revision.to_le_bytes().to_vec();
+    for number in numbers {
+        value.extend_from_slice(&number.to_le_bytes());
+    }
+    field(tag, &value)
+}
+
+/// Where the fields of a block lie, as far as they can be told apart.
+pub fn fields(block: &[u8]) -> Vec<Range<usize>> {
+    let mut fields = Vec::new();
+    let mut start = 0;
+    while let Some(header) = block.get(start..start + 3) {
+        let end = start + 3 + usize::from(u16::from_le_bytes([header[1], header[2]]));
+        if end > block.len() {
+            break;
+        }
+        fields.push(start..end);
+        start = end;
+    }
+    fields
+}
+
+fn numbers_within(random: &mut Random, record_type: usize) -> Vec<u32> {
+    let numbers = LIMITS[record_type].iter();
+    numbers
+        .map(|limit| {
+            if random.one_in(4) {
+                *limit
+            } else {
+                random.word() & limit
+            }
+        })
+        .collect()
+}
+
+/// A sound revision 1 record of type 0, 1 or 2.
+pub fn record(random: &mut Random, record_type: u8) -> Vec<u8> {
+    let numbers = numbers_within(random, usize::from(record_type));
+    numbers_field(record_type, 1, &numbers)
+}
+
+/// A field that a search passes over: a tag above 2, or another revision.
+fn skipped_field(random: &mut Random) -> Vec<u8> {
+    if random.one_in(2) {
+        let length = random.below(12);
+        let value = random.bytes(length);
+        return field(random.pick(&[3, 4, 0x80, 255]), &value);
+    }
+    let revision = random.pick(&[0, 2, 0x101, 0x0100_0000, ANY]);
+    let numbers: Vec<u32> = (0..random.below(6)).map(|_| random.word()).collect();
+    numbers_field(random.below(3) as u8, revision, &numbers)
+}
+
+/// The fields of a sound block with records of these types among fields that are passed over.
+fn sound_fields(random: &mut Random, types: &[u8]) -> Vec<Vec<u8>> {
+    let mut fields: Vec<Vec<u8>> = types
+        .iter()
+        .map(|record_type| record(random, *record_type))
+        .collect();
+    for _ in 0..random.below(3) {
+        fields.push(skipped_field(random));
+    }
+    random.shuffle(&mut fields);
+    fields
+}
+
+/// A sound block with records of these types, each at most once.
+pub fn sound_block(random: &mut Random, types: &[u8]) -> Vec<u8> {
+    sound_fields(random, types).concat()
+}
+
+fn some_types(random: &mut Random) -> Vec<u8> {
+    let all: [&[u8]; 8] = [&[0, 1, 2], &[2], &[0, 2], &[1, 2], &[0, 1], &[0], &[1], &[]];
+    random.pick(&all).to_vec()
+}
+
+/// The slot's block and the bridge's: either may be empty, sound, or spoiled.
+pub fn pair(random: &mut Random) -> (Vec<u8>, Vec<u8>) {
+    let slot = if random.one_in(2) {
+        Vec::new()
+    } else {
+        any_block(random)
+    };
+    let bridge_block = if random.one_in(12) {
+        Vec::new()
+    } else {
+        any_block(random)
+    };
+    (slot, bridge_block)
+}
+
+fn any_block(random: &mut Random) -> Vec<u8> {
+    let types = some_types(random);
+    let mut fields = sound_fields(random, &types);
+    match random.below(8) {
+        0 => spoil_fields(random, &mut fields),
+        1 => return cut_or_extended(random, fields.concat()),
+        2 if random.one_in(4) => return padded(random, fields.concat()),
+        _ => {}
+    }
+    fields.concat()
+}
+
+/// Makes one field wrong, or stand at the edge of a rule.
+fn spoil_fields(random: &mut Random, fields: &mut Vec<Vec<u8>>) {
+    if fields.is_empty() {
+        fields.push(field(random.pick(&[0, 1, 2]), &[1, 0, 0]));
+        return;
+    }
+    let index = random.below(fields.len());
+    let chosen = &mut fields[index];
+    match random.below(6) {
+        0 => *chosen = beyond_limit(random),
+        1 => {
+            let copy = chosen.clone();
+            fields.insert(random.below(index + 1), copy);
+        }
+        2 => {
+            let length = u16::from_le_bytes([chosen[1], chosen[2]]);
+            let changed = length.wrapping_add_signed(random.pick(&[1, -1, 4, -4, 256]));
+            chosen[1..3].copy_from_slice(&changed.to_le_bytes());
+        }
+        3 => *chosen = wrong_length(random),
+        4 => chosen[0] = random.pick(&[0, 1, 2, 3]),
+        _ => {
+            let place = random.below(chosen.len());
+            chosen[place] = random.byte();
+        }
+    }
+}
+
+/// A record with one number at its limit plus one.
+fn beyond_limit(random: &mut Random) -> Vec<u8> {
+    let record_type = random.below(3);
+    let mut numbers = numbers_within(random, record_type);
+    let place = random.below(numbers.len());
+    let limit = LIMITS[record_type][place];
+    numbers[place] = random.pick(&[limit.wrapping_add(1), limit | 0x8000_0000]);
+    numbers_field(record_type as u8, 1, &numbers)
+}
+
+/// A record of tag 0 to 2 whose field agrees with itself, but with a length off by 1 or 4, or below 4.
+fn wrong_length(random: &mut Random) -> Vec<u8> {
+    let record_type = random.below(3) as u8;
+    let mut value = record(random, record_type).split_off(3);
+    match random.below(4) {
+        0 => value.truncate(value.len() - 4),
+        1 => value.extend_from_slice(&random.bytes(4)),
+        2 => value.truncate(value.len() - 1),
+        _ => value.truncate(random.below(5)),
+    }
+    field(record_type, &value)
+}
+
+fn cut_or_extended(random: &mut Random, mut block: Vec<u8>) -> Vec<u8> {
+    if random.one_in(3) {
+        let more = random.between(1, 3);
+        block.extend_from_slice(&random.bytes(more));
+    } else {
+        block.truncate(random.below(block.len() + 1));
+    }
+    block
+}
+
+/// The block with a skipped field at its end or beginning, so that it has 1023 to 1025 bytes.
+fn padded(random: &mut Random, block: Vec<u8>) -> Vec<u8> {
+    let length = random.pick(&[MOST_BYTES - 1, MOST_BYTES, MOST_BYTES + 1]);
+    let filler = field(3, &random.bytes(length - 3 - block.len()));
+    if random.one_in(2) {
+        [filler, block].concat()
+    } else {
+        [block, filler].concat()
+    }
+}

@@ -1,0 +1,57 @@
+//! A buffer as it is lent to a call, with guards before and after it.
+
+/// Guard items on either side. Odd, so that lent bytes start at an odd address.
+pub const GUARD: usize = 13;
+const PATTERN: u8 = 0xA5;
+
+pub type Bytes = Buffer<u8>;
+pub type Words = Buffer<u32>;
+
+/// With a guard of 0 it is a heap allocation of exactly the lent length.
+#[derive(Clone, Debug, PartialEq, Eq)]
+pub struct Buffer<T> {
+    whole: Box<[T]>,
+    guard: usize,
+}
+
+impl<T: Copy + From<u8>> Buffer<T> {
+    pub fn guarded(content: &[T], guard: usize) -> Buffer<T> {
+        let mut whole = Vec::with_capacity(content.len() + 2 * guard);
+        whole.resize(guard, T::from(PATTERN));
+        whole.extend_from_slice(content);
+        whole.resize(content.len() + 2 * guard, T::from(PATTERN));
+        Buffer {
+            whole: whole.into_boxed_slice(),
+            guard,
+        }
+    }
+
+    pub fn lent(&self) -> &[T] {
+        &self.whole[self.guard..self.whole.len() - self.guard]
+    }
+
+    pub fn lent_mut(&mut self) -> &mut [T] {
+        let end = self.whole.len() - self.guard;
+        &mut self.whole[self.guard..end]
+    }
+
+    /// The lent part with its guards.
+    pub fn whole_mut(&mut self) -> &mut [T] {
+        &mut self.whole
+    }
+
+    /// The same guards around other content.
+    pub fn replace(&mut self, content: &[T]) {
+        *self = Buffer::guarded(content, self.guard);
+    }
+
+    pub fn set_guard(&mut self, guard: usize) {
+        *self = Buffer::guarded(self.lent(), guard);
+    }
+}
+
+impl<T: Copy + From<u8>> From<Vec<T>> for Buffer<T> {
+    fn from(content: Vec<T>) -> Buffer<T> {
+        Buffer::guarded(&content, GUARD)
+    }
+}

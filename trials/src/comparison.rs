@@ -1,0 +1,117 @@
+//! Runs a list on two programs and compares after every call.
+
+use crate::call::{Call, Given};
+use crate::rows::ROW;
+use crate::service::{Pair, Service};
+
+/// The first difference that a list shows.
+#[derive(Clone, Debug)]
+pub struct Difference {
+    /// The call after which it shows, counted from 0.
+    pub at: usize,
+    pub names: [&'static str; 2],
+    pub what: What,
+}
+
+#[derive(Clone, Debug, PartialEq, Eq)]
+pub enum What {
+    /// The number, or what is handed back beside it.
+    Given([Given; 2]),
+    /// A lent buffer, its guards included: both calls as they were left.
+    Lent(Box<[Call; 2]>),
+    /// The program on one side changed a buffer that it may only read, or a guard.
+    Touched { side: usize, left: Box<Call> },
+    /// What a bridge holds after the call, by report under its owner.
+    Holding {
+        bridge: u8,
+        owner: u8,
+        reports: [Given; 2],
+    },
+}
+
+/// What is told of a call on which both programs agree.
+pub struct Agreed<'a> {
+    /// The call as it was left.
+    pub call: &'a Call,
+    pub given: Given,
+    /// The reports on all bridges after it.
+    pub reports: &'a [Given],
+}
+
+/// The first difference between the two programs on this list. `seen` is told of each call before it.
+pub fn compare(list: &[Call], pair: &mut Pair, seen: &mut dyn FnMut(Agreed)) -> Option<Difference> {
+    let names = [pair.left.name(), pair.right.name()];
+    let mut owners = Vec::new();
+    let mut reports = Vec::new();
+    for (at, call) in list.iter().enumerate() {
+        if let Call::Start { rows, .. } = call {
+            owners = rows
+                .lent()
+                .chunks(ROW)
+                .map(|row| row[0])
+                .take(usize::from(u8::MAX))
+                .collect();
+        }
+        let checked = compare_call(call, pair).and_then(|(left, given)| {
+            compare_holdings(&owners, pair, &mut reports)?;
+            Ok((left, given))
+        });
+        match checked {
+            Err(what) => return Some(Difference { at, names, what }),
+            Ok((left, given)) => seen(Agreed {
+                call: &left,
+                given,
+                reports: &reports,
+            }),
+        }
+    }
+    None
+}
+
+/// Makes one call on both sides, and gives it as it was left.
+pub fn compare_call(call: &Call, pair: &mut Pair) -> Result<(Call, Given), What> {
+    let mut calls = [call.clone(), call.clone()];
+    let [left, right] = &mut calls;
+    let given = [pair.left.call(left), pair.right.call(right)];
+    if given[0] != given[1] {
+        return Err(What::Given(given));
+    }
+    for (side, left) in calls.iter().enumerate() {
+        if !left.keeps_all_but_answer(call) {
+            return Err(What::Touched {
+                side,
+                left: Box::new(left.clone()),
+            });
+        }
+    }
+    if calls[0] != calls[1] {
+        return Err(What::Lent(Box::new(calls)));
+    }
+    let [left, _] = calls;
+    Ok((left, given[0]))
+}
+
+/// Reports on every bridge under its owner, and on one bridge number after them.
+fn compare_holdings(owners: &[u8], pair: &mut Pair, reports: &mut Vec<Given>) -> Result<(), What> {
+    reports.clear();
+    for bridge in 0..=owners.len() {
+        let owner = owners.get(bridge).copied().unwrap_or(0);
+        let bridge = bridge as u8;
+        let report = |service: &mut dyn Service| {
+            service.call(&mut Call::Report {
+                session: owner,
+                bridge,
+            })
+        };
+        let both = [report(&mut *pair.left), report(&mut *pair.right)];
+        if both[0] != both[1] {
+            return Err(What::Holding {
+                bridge,
+                owner,
+                reports: both,
+            });
+        }
+        reports.push(both[0]);
+    }
+    Ok(())
+}

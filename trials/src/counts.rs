@@ -1,0 +1,122 @@
+//! How often each call gave each number, and the answers of interest.
+
+use std::fmt;
+
+use crate::call::{Call, Handed, KINDS, LISTED};
+use crate::comparison::Agreed;
+
+const NUMBERS: usize = 12;
+/// A run of this many calls must give every listed number of every call at least `LEAST` times.
+pub const FULL_RUN: u64 = 200_000;
+pub const LEAST: u64 = 1_000;
+
+/// What is counted beside the numbers.
+const ANSWERS: [&str; 11] = [
+    "_OSC status 0x00",
+    "_OSC status 0x02",
+    "_OSC status 0x04",
+    "_OSC status 0x08",
+    "_OSC status 0x10",
+    "_OSC query done",
+    "_OSC taking call done",
+    "record in the slot's block",
+    "record in the bridge's block",
+    "register values with AER held",
+    "register values without AER",
+];
+const AER: u32 = 1 << 3;
+
+#[derive(Default)]
+pub struct Counts {
+    numbers: [[u64; NUMBERS]; KINDS.len()],
+    answers: [u64; ANSWERS.len()],
+}
+
+impl Counts {
+    pub fn calls(&self) -> u64 {
+        self.numbers.iter().flatten().sum()
+    }
+
+    pub fn note(&mut self, agreed: &Agreed) {
+        self.numbers[agreed.call.kind()][usize::from(agreed.given.number)] += 1;
+        if agreed.given.number == 0 {
+            self.note_answer(agreed);
+        }
+    }
+
+    fn note_answer(&mut self, agreed: &Agreed) {
+        match (agreed.call, agreed.given.handed) {
+            (
+                Call::Osc {
+                    capabilities,
+                    answer,
+                    ..
+                },
+                _,
+            ) => {
+                let statuses = [0x00, 0x02, 0x04, 0x08, 0x10];
+                let status = answer.lent()[0];
+                if let Some(place) = statuses.iter().position(|known| *known == status) {
+                    self.answers[place] += 1;
+                }
+                if matches!(status, 0x00 | 0x10) {
+                    self.answers[if capabilities.lent()[0] & 1 == 1 {
+                        5
+                    } else {
+                        6
+                    }] += 1;
+                }
+            }
+            (Call::FindRecord { .. }, Handed::Record { in_slot, .. }) => {
+                self.answers[if in_slot { 7 } else { 8 }] += 1;
+            }
+            (Call::RegisterValues { bridge, .. }, _) => {
+                let report = agreed.reports[usize::from(*bridge)].handed;
+                let aer = matches!(report, Handed::Holding { held, .. } if held & AER != 0);
+                self.answers[if aer { 9 } else { 10 }] += 1;
+            }
+            _ => {}
+        }
+    }
+
+    /// The listed numbers, and the answers, that came fewer than `LEAST` times.
+    pub fn rare(&self) -> Vec<String> {
+        let mut rare = Vec::new();
+        for (kind, listed) in LISTED.iter().enumerate() {
+            for number in *listed {
+                let count = self.numbers[kind][*number];
+                if count < LEAST {
+                    rare.push(format!("{} gave {number} {count} times", KINDS[kind]));
+                }
+            }
+        }
+        for (answer, count) in ANSWERS.iter().zip(self.answers) {
+            if count < LEAST {
+                rare.push(format!("{answer}: {count} times"));
+            }
+        }
+        rare
+    }
+}
+
+impl fmt::Display for Counts {
+    fn fmt(&self, f: &mut fmt::Formatter<'_>) -> fmt::Result {
+        write!(f, "{:<16}", "number")?;
+        for number in 0..NUMBERS {
+            write!(f, "{number:>9}")?;
+        }
+        for (kind, numbers) in KINDS.iter().zip(&self.numbers) {
+            write!(f, "\n{kind:<16}")?;
+            for count in numbers {
+                match count {
+                    0 => write!(f, "{:>9}", "-")?,
+                    _ => write!(f, "{count:>9}")?,
+                }
+            }
+        }
+        for (answer, count) in ANSWERS.iter().zip(self.answers) {
+            write!(f, "\n{answer:<31}{count:>9}")?;
+        }
+        Ok(())
+    }
+}

@@ -1,0 +1,103 @@
+//! Record blocks with one byte changed, and cut.
+
+use super::Bench;
+use crate::blocks;
+use crate::call::Call;
+use crate::mcfg::{self, Entry};
+use crate::random::Random;
+use crate::requests;
+use crate::rows::{self, Row};
+use crate::service::Pair;
+
+const OWNER: u8 = 7;
+/// Bridge 0 takes hot plug without AER, bridge 1 with it.
+const CONTROLS: [u32; 2] = [0x11, 0x19];
+
+fn started(make: fn() -> Pair) -> Result<Bench, String> {
+    let entry = Entry {
+        base: 0,
+        segment: 0,
+        start: 0,
+        end: 1,
+    };
+    let row = |bus| Row {
+        owner: OWNER,
+        segment: 0,
+        first: bus,
+        last: bus,
+        kind: rows::EXPRESS,
+        permitted: 0x1F,
+    };
+    let mcfg = mcfg::table(&mut Random::new(0), &[entry]);
+    let start = Call::Start {
+        mcfg: mcfg.into(),
+        rows: rows::bytes(&[row(0), row(1)]).into(),
+    };
+    let take = |bridge: usize| requests::right_call(OWNER, bridge as u8, 0, 0, CONTROLS[bridge]);
+    Bench::new(make, vec![start, take(0), take(1)])
+}
+
+/// All three types, a tag that is skipped and a revision that is skipped.
+fn sound_block() -> Vec<u8> {
+    let random = &mut Random::new(1);
+    let skipped_tag = blocks::field(3, &[1, 0]);
+    let skipped_revision = blocks::numbers_field(0, 2, &[0xFFFF_FFFF]);
+    let [first, second, third] = [0, 1, 2].map(|record_type| blocks::record(random, record_type));
+    [skipped_tag, first, skipped_revision, second, third].concat()
+}
+
+pub fn changed_bytes(make: fn() -> Pair) -> Result<u64, String> {
+    let mut bench = started(make)?;
+    let sound = sound_block();
+    for place in 0..sound.len() {
+        for value in 0..=u8::MAX {
+            let mut changed = sound.clone();
+            changed[place] = value;
+            check(&mut bench, &changed, &sound)?;
+        }
+    }
+    Ok(bench.count)
+}
+
+pub fn cut_blocks(make: fn() -> Pair) -> Result<u64, String> {
+    let mut bench = started(make)?;
+    let sound = sound_block();
+    for length in 0..=sound.len() {
+        check(&mut bench, &sound[..length], &sound)?;
+    }
+    Ok(bench.count)
+}
+
+/// Types 0 to 3 and register values, with the block as the slot's, beside a sound one, and as the bridge's.
+fn check(bench: &mut Bench, block: &[u8], sound: &[u8]) -> Result<(), String> {
+    let current = [
+        0xFFFF_0000,
+        0x0F0F_0F0F,
+        0,
+        u32::MAX,
+        0x2110,
+        0xFFFF,
+        0x5555_5555,
+        0xAAAA_AAAA,
+    ];
+    for (slot, bridge_block) in [(block, sound), (&[], block)] {
+        let lent = |block: &[u8]| block.to_vec().into();
+        for record_type in 0..=3 {
+            bench.check(Call::FindRecord {
+                slot: lent(slot),
+                bridge_block: lent(bridge_block),
+                record_type,
+            })?;
+        }
+        for bridge in 0..CONTROLS.len() as u8 {
+            bench.check(Call::RegisterValues {
+                session: OWNER,
+                bridge,
+                slot: lent(slot),
+                bridge_block: lent(bridge_block),
+                current: current.to_vec().into(),
+            })?;
+        }
+    }
+    Ok(())
+}

@@ -1,0 +1,89 @@
+//! Comparisons of every case of a small range.
+
+mod blocks;
+pub mod granting;
+mod places;
+mod starts;
+
+use crate::call::{Call, Given};
+use crate::comparison;
+use crate::print;
+use crate::random_trials::shortest;
+use crate::service::Pair;
+
+/// The name of each comparison, and the comparison: the count of its calls, or a difference in words.
+type Comparison = (&'static str, fn(fn() -> Pair) -> Result<u64, String>);
+
+const COMPARISONS: [Comparison; 7] = [
+    ("every offset with every width", places::offsets_and_widths),
+    (
+        "every device with every function",
+        places::devices_and_functions,
+    ),
+    (
+        "every bus of every bridge, read back under each session",
+        places::buses_and_sessions,
+    ),
+    ("every window edge and the bytes beside it", places::edges),
+    (
+        "every byte of an MCFG table changed to every value",
+        starts::changed_bytes,
+    ),
+    (
+        "every byte of a record block changed to every value",
+        blocks::changed_bytes,
+    ),
+    ("a record block cut at every byte", blocks::cut_blocks),
+];
+
+/// Makes all comparisons of calls and tells the count of each.
+pub fn run(make: fn() -> Pair, tell: &mut dyn FnMut(&str, u64)) -> Result<(), String> {
+    for (name, comparison) in COMPARISONS {
+        tell(name, comparison(make)?);
+    }
+    Ok(())
+}
+
+/// Two programs after some first calls, and a count of the calls compared since.
+struct Bench {
+    make: fn() -> Pair,
+    pair: Pair,
+    first: Vec<Call>,
+    count: u64,
+}
+
+impl Bench {
+    fn new(make: fn() -> Pair, first: Vec<Call>) -> Result<Bench, String> {
+        let mut pair = make();
+        if comparison::compare(&first, &mut pair, &mut |_| ()).is_some() {
+            return Err(difference(&first, make));
+        }
+        Ok(Bench {
+            make,
+            pair,
+            first,
+            count: 0,
+        })
+    }
+
+    /// Makes the call on both; a difference is an error, in words. A start becomes the first call of those after it.
+    fn check(&mut self, call: Call) -> Result<Given, String> {
+        self.count += 1;
+        let Ok((_, given)) = comparison::compare_call(&call, &mut self.pair) else {
+            self.first.push(call);
+            return Err(difference(&self.first, self.make));
+        };
+        if matches!(call, Call::Start { .. }) {
+            self.first = vec![call];
+        }
+        Ok(given)
+    }
+}
+
+/// The shortest list from this one that shows a difference.
+fn difference(list: &[Call], make: fn() -> Pair) -> String {
+    match shortest(list, make) {
+        Some((list, difference)) => print::report(&list, &difference),
+        None => "a difference that depends on calls that leave the table as it is".to_string(),
+    }
+}

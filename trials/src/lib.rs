@@ -1,0 +1,18 @@
+//! Random trials and exhaustive comparisons of the proved library with the reference implementation of document 01.
+
+pub mod blocks;
+pub mod buffer;
+pub mod call;
+pub mod comparison;
+pub mod counts;
+pub mod exhaustive;
+pub mod lists;
+pub mod mcfg;
+pub mod places;
+pub mod print;
+pub mod random;
+pub mod random_trials;
+pub mod requests;
+pub mod rows;
+pub mod service;
+pub mod shrink;

@@ -1,0 +1,196 @@
+//! Lists of calls: one start and some tens of calls around what was started.
+
+use crate::blocks;
+use crate::call::Call;
+use crate::mcfg::{self, Entry};
+use crate::places;
+use crate::random::Random;
+use crate::requests;
+use crate::rows::{self, Row};
+
+/// A sound start, around which the calls of a list are drawn, whether or not the list starts so.
+pub struct Plan {
+    pub entries: Vec<Entry>,
+    pub rows: Vec<Row>,
+    /// Addresses that earlier calls of the list asked for.
+    asked: Vec<u64>,
+}
+
+impl Plan {
+    pub fn new(random: &mut Random) -> Plan {
+        let count = random.pick(&[0, 1, 1, 1, 1, 2, 2, 2, 2, 3, 3, 3, 4, 4, 8, 16]);
+        let entries = mcfg::sound_entries(random, count);
+        let most = random.pick(&[1, 2, 3, 4, 6, 16]);
+        let rows = rows::sound_rows(random, &entries, most);
+        Plan {
+            entries,
+            rows,
+            asked: Vec::new(),
+        }
+    }
+
+    fn start(&self, random: &mut Random, spoil_mcfg: bool, spoil_rows: bool) -> Call {
+        let mcfg = match spoil_mcfg {
+            true => mcfg::spoiled_table(random, &self.entries),
+            false => mcfg::table(random, &self.entries),
+        };
+        let rows = match spoil_rows {
+            true => rows::spoiled_rows(random, &self.entries, &self.rows),
+            false => rows::bytes(&self.rows),
+        };
+        Call::Start {
+            mcfg: mcfg.into(),
+            rows: rows.into(),
+        }
+    }
+
+    /// A session and a bridge number: most times a bridge and its owner.
+    fn names(&self, random: &mut Random) -> (u8, u8) {
+        let count = self.rows.len();
+        let bridge = match random.below(16) {
+            0 => count as u8,
+            1 => random.pick(&[count as u8 + 1, 16, 17, 128, 255]),
+            _ => random.below(count.max(1)) as u8,
+        };
+        let owner = self
+            .rows
+            .get(usize::from(bridge))
+            .map_or(0, |row| row.owner);
+        let session = match random.below(10) {
+            0 => random.pick(&[
+                owner + 1,
+                owner.wrapping_sub(1),
+                owner ^ 1,
+                owner | 0x10,
+                255,
+            ]),
+            1 | 2 => random.below(17) as u8,
+            _ => owner,
+        };
+        (session, bridge)
+    }
+
+    fn next_call(&mut self, random: &mut Random) -> Call {
+        let (session, bridge) = self.names(random);
+        match random.below(32) {
+            0..8 => requests::any_call(random, session, bridge),
+            8..10 => Call::Reset { session, bridge },
+            10..12 => Call::Report { session, bridge },
+            12..16 => self.address(random, session, bridge),
+            16..19 => self.locate(random, session),
+            19..22 => {
+                let (slot, bridge_block) = blocks::pair(random);
+                let record_type = random.pick(&[0, 1, 2, 0, 1, 2, 0, 1, 2, 3, 255]);
+                Call::FindRecord {
+                    slot: slot.into(),
+                    bridge_block: bridge_block.into(),
+                    record_type,
+                }
+            }
+            _ => register_values(random, session, bridge),
+        }
+    }
+
+    fn address(&mut self, random: &mut Random, session: u8, bridge: u8) -> Call {
+        let anywhere = Row {
+            owner: 0,
+            segment: 0,
+            first: 0,
+            last: 255,
+            kind: rows::EXPRESS,
+            permitted: 0,
+        };
+        let row = self
+            .rows
+            .get(usize::from(bridge))
+            .copied()
+            .unwrap_or(anywhere);
+        let call = places::any_address(random, session, bridge, row);
+        if let (
+            Call::Address {
+                bus,
+                device,
+                function,
+                offset,
+                ..
+            },
+            Some(entry),
+        ) = (&call, row.entry(&self.entries))
+        {
+            self.asked
+                .push(places::address_of(entry, *bus, *device, *function, *offset));
+        }
+        call
+    }
+
+    fn locate(&self, random: &mut Random, session: u8) -> Call {
+        let row = self.rows.get(random.below(self.rows.len().max(1)));
+        let near = row.and_then(|row| Some((row, row.entry(&self.entries)?)));
+        let owner = near.map_or(session, |(row, _)| row.owner);
+        let session = random.pick(&[owner, owner, session]);
+        let address = match (random.below(8), near) {
+            (0, _) | (_, None) => random.pick(&[0, 1, u64::MAX, 1 << 63, 0xE000_0000]),
+            (1, _) => random.long(),
+            (2..5, _) if !self.asked.is_empty() => random.pick(&self.asked),
+            (_, Some((row, entry))) => places::near_address(random, entry, row),
+        };
+        Call::Locate { session, address }
+    }
+}
+
+fn register_values(random: &mut Random, session: u8, bridge: u8) -> Call {
+    let (slot, bridge_block) = blocks::pair(random);
+    let length = if random.one_in(6) {
+        random.pick(&[0, 7, 9])
+    } else {
+        8
+    };
+    let mut current: Vec<u32> = (0..length).map(|_| random.word()).collect();
+    for control in current.iter_mut().skip(4).take(2) {
+        *control &= 0xFFFF;
+        if random.one_in(8) {
+            *control = random.pick(&[0xFFFF, 0x1_0000, u32::MAX]);
+        }
+    }
+    Call::RegisterValues {
+        session,
+        bridge,
+        slot: slot.into(),
+        bridge_block: bridge_block.into(),
+        current: current.into(),
+    }
+}
+
+/// A list of calls. Half of the lists start a table; the others are refused, as a rule, and are short.
+pub fn any_list(random: &mut Random) -> Vec<Call> {
+    let mut plan = Plan::new(random);
+    let spoil_mcfg = random.one_in(4);
+    let spoil_rows = random.one_in(if spoil_mcfg { 8 } else { 3 });
+    let mut list = vec![plan.start(random, spoil_mcfg, spoil_rows)];
+    let calls = if spoil_mcfg || spoil_rows {
+        random.between(2, 6)
+    } else {
+        random.between(10, 50)
+    };
+    if calls > 6 {
+        take_control(random, &plan, &mut list);
+    }
+    for _ in 0..calls {
+        list.push(plan.next_call(random));
+    }
+    list
+}
+
+/// A taking call on each bridge, so that register values are computed with AER and without.
+fn take_control(random: &mut Random, plan: &Plan, list: &mut Vec<Call>) {
+    for (bridge, row) in plan.rows.iter().enumerate() {
+        let control = random.pick(&[0x1F, 0x17, 0x11, 0x19]);
+        list.push(requests::right_call(
+            row.owner,
+            bridge as u8,
+            0,
+            random.word(),
+            control,
+        ));
+    }
+}

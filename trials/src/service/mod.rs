@@ -1,0 +1,40 @@
+//! The programs that are compared: each is one service.
+
+mod boundary;
+mod rust_tables;
+
+pub use boundary::Boundary;
+pub use rust_tables::{Reference, SafeCrate};
+
+use crate::call::{Call, Given};
+
+pub trait Service {
+    /// What a reader knows the program as.
+    fn name(&self) -> &'static str;
+
+    /// Makes one call on the table that the last start left, or on a table with no bridges before any start. The call's buffers are
+    /// what is lent: the service leaves them as the call left them.
+    fn call(&mut self, call: &mut Call) -> Given;
+}
+
+/// Two programs under comparison, made anew for each list.
+pub struct Pair {
+    pub left: Box<dyn Service>,
+    pub right: Box<dyn Service>,
+}
+
+/// The proved library at the C boundary, and the reference implementation.
+pub fn boundary_and_reference() -> Pair {
+    Pair {
+        left: Box::new(Boundary::new()),
+        right: Box::new(Reference::new()),
+    }
+}
+
+/// The safe crate over the proved library, and the reference implementation.
+pub fn safe_crate_and_reference() -> Pair {
+    Pair {
+        left: Box::new(SafeCrate::new()),
+        right: Box::new(Reference::new()),
+    }
+}
