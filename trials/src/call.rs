@@ -86,6 +86,41 @@ pub enum Part<'a> {
     Words(&'a mut Words),
 }
 
+impl Part<'_> {
+    /// Whether it is lent, and so has a length.
+    pub fn is_buffer(&self) -> bool {
+        matches!(self, Part::Bytes(_) | Part::Words(_))
+    }
+
+    /// The number, or the items of what is lent.
+    pub fn items(&self) -> Vec<u64> {
+        match self {
+            Part::Byte(number) => vec![u64::from(**number)],
+            Part::Half(number) => vec![u64::from(**number)],
+            Part::Word(number) => vec![u64::from(**number)],
+            Part::Long(number) => vec![**number],
+            Part::Bytes(bytes) => bytes.lent().iter().copied().map(u64::from).collect(),
+            Part::Words(words) => words.lent().iter().copied().map(u64::from).collect(),
+        }
+    }
+
+    /// Sets what `items` gives; an item that is too large loses its upper bits.
+    pub fn set_items(&mut self, items: &[u64]) {
+        match self {
+            Part::Byte(number) => **number = items[0] as u8,
+            Part::Half(number) => **number = items[0] as u16,
+            Part::Word(number) => **number = items[0] as u32,
+            Part::Long(number) => **number = items[0],
+            Part::Bytes(bytes) => {
+                bytes.replace(&items.iter().map(|item| *item as u8).collect::<Vec<_>>())
+            }
+            Part::Words(words) => {
+                words.replace(&items.iter().map(|item| *item as u32).collect::<Vec<_>>())
+            }
+        }
+    }
+}
+
 /// Names each field of a call and pairs it with its kind of part.
 macro_rules! parts {
     ($($field:ident: $part:ident),*) => {

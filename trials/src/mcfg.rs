@@ -131,43 +131,56 @@ pub fn spoiled_table(random: &mut Random, entries: &[Entry]) -> Vec<u8> {
 fn spoiled_entries(random: &mut Random, entries: &[Entry]) -> Vec<Entry> {
     let mut spoiled = entries.to_vec();
     let index = random.below(spoiled.len());
-    let copy = spoiled[index];
-    let entry = &mut spoiled[index];
+    let chosen = spoiled[index];
     match random.below(8) {
-        0 if entry.start > 0 => entry.end = entry.start - 1,
-        0 | 1 => (entry.start, entry.end) = (entry.end.max(1), entry.start.min(254)),
-        2 => {
-            entry.base = entry
-                .base
-                .wrapping_add(random.pick(&[1, 0x1000, 0x8_0000, BUS_BYTES - 1]))
-        }
-        3 => entry.base = (BUSES_TO_END - u64::from(entry.end)).wrapping_mul(BUS_BYTES),
-        4 => entry.base = random.pick(&[!(BUS_BYTES - 1), copy.base.wrapping_sub(BUS_BYTES)]),
+        0..5 => spoil_entry(random, &mut spoiled[index]),
         5 => {
-            let base = copy.base ^ (1 << random.between(30, 63));
-            let shared = random.pick(&[copy.start, copy.end]);
-            let other = Entry {
-                base,
-                start: shared,
-                end: shared,
-                ..copy
-            };
+            let other = sharing_a_bus(random, chosen);
             put(random, &mut spoiled, other);
         }
         6 => {
-            let end = random.pick(&[0, 3]);
-            let base = copy.window_end().wrapping_sub(BUS_BYTES);
-            let other = Entry {
-                base,
-                segment: copy.segment ^ 0x40,
-                start: 0,
-                end,
-            };
+            let other = sharing_the_last_window_bus(random, chosen);
             put(random, &mut spoiled, other);
         }
         _ => spoiled = sound_entries(random, 17),
     }
     spoiled
+}
+
+/// Start above end, a base that is not aligned, a window one bus past 2^64 or one bus lower.
+fn spoil_entry(random: &mut Random, entry: &mut Entry) {
+    let unaligned = random.pick(&[1, 0x1000, 0x8_0000, BUS_BYTES - 1]);
+    match random.below(6) {
+        0 if entry.start > 0 => entry.end = entry.start - 1,
+        0 | 1 => (entry.start, entry.end) = (entry.end.max(1), entry.start.min(254)),
+        2 => entry.base = entry.base.wrapping_add(unaligned),
+        3 => entry.base = (BUSES_TO_END - u64::from(entry.end)).wrapping_mul(BUS_BYTES),
+        4 => entry.base = !(BUS_BYTES - 1),
+        _ => entry.base = entry.base.wrapping_sub(BUS_BYTES),
+    }
+}
+
+/// An entry of the same segment that shares a bus and no byte of its window.
+fn sharing_a_bus(random: &mut Random, entry: Entry) -> Entry {
+    let shared = random.pick(&[entry.start, entry.end]);
+    let base = entry.base ^ (1 << random.between(30, 63));
+    Entry {
+        base,
+        start: shared,
+        end: shared,
+        ..entry
+    }
+}
+
+/// An entry of another segment whose window starts at the last bus of this one's.
+fn sharing_the_last_window_bus(random: &mut Random, entry: Entry) -> Entry {
+    let base = entry.window_end().wrapping_sub(BUS_BYTES);
+    Entry {
+        base,
+        segment: entry.segment ^ 0x40,
+        start: 0,
+        end: random.pick(&[0, 3]),
+    }
 }
 
 /// Puts the entry in, or in place of another where 16 stand already.

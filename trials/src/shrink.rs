@@ -1,48 +1,39 @@
 //! The shortest list that shows a difference.
 
+use std::ops::Range;
+
 use crate::blocks;
 use crate::call::{Call, Part};
 use crate::mcfg;
 use crate::rows::ROW;
 
-/// Smaller is simpler: calls, then lent items, then the sum of all numbers and bytes.
+/// Smaller is simpler: calls, then lent items, then the sum of all numbers and items.
 type Size = (usize, usize, u128);
 
+/// Lists that are tried at most, so that a difference is told in the end.
+const MOST_TRIES: usize = 200_000;
+
 fn size(list: &[Call]) -> Size {
-    let mut items = 0;
-    let mut sum = 0u128;
+    let mut lent = 0;
+    let mut sum = 0;
     for call in list {
         for (_, part) in call.clone().parts() {
-            match part {
-                Part::Byte(number) => sum += u128::from(*number),
-                Part::Half(number) => sum += u128::from(*number),
-                Part::Word(number) => sum += u128::from(*number),
-                Part::Long(number) => sum += u128::from(*number),
-                Part::Bytes(bytes) => {
-                    items += bytes.lent().len();
-                    sum += bytes
-                        .lent()
-                        .iter()
-                        .map(|byte| u128::from(*byte))
-                        .sum::<u128>();
-                }
-                Part::Words(words) => {
-                    items += words.lent().len();
-                    sum += words
-                        .lent()
-                        .iter()
-                        .map(|word| u128::from(*word))
-                        .sum::<u128>();
-                }
-            }
+            let items = part.items();
+            lent += if part.is_buffer() { items.len() } else { 0 };
+            sum += items.into_iter().map(u128::from).sum::<u128>();
         }
     }
-    (list.len(), items, sum)
+    (list.len(), lent, sum)
 }
 
 /// Takes calls, rows, entries and bytes away and makes numbers smaller, as long as the list still differs.
 pub fn shrink(list: &[Call], differs: &mut dyn FnMut(&[Call]) -> bool) -> Vec<Call> {
     let mut best = list.to_vec();
+    let mut tries = 0;
+    let differs = &mut |list: &[Call]| {
+        tries += 1;
+        tries <= MOST_TRIES && differs(list)
+    };
     while let Some(simpler) = first_simpler(&best, differs) {
         best = simpler;
     }
@@ -141,18 +132,19 @@ fn simpler_tables(table: &[u8]) -> Vec<Vec<u8>> {
     simpler
 }
 
-/// Smaller numbers to try in place of this one.
+/// Smaller numbers to try in place of this one: 0, then it less a half, a quarter and so on down to it less 1.
 fn smaller(number: u64) -> Vec<u64> {
-    let mut numbers = vec![0, 1, number / 2, number.wrapping_sub(1)];
-    numbers.retain(|other| *other < number);
-    numbers.dedup();
-    numbers
+    let parts = (0..u64::BITS).map(|bits| number >> bits);
+    parts
+        .take_while(|part| *part > 0)
+        .map(|part| number - part)
+        .collect()
 }
 
-/// Shorter lists of items, lists with zeros in a run, then lists with one item smaller.
-fn simpler_items<T: Copy + Into<u64> + TryFrom<u64> + From<u8>>(items: &[T]) -> Vec<Vec<T>> {
+/// Shorter lists of items, then lists with zeros in a run.
+fn shorter_items(items: &[u64]) -> Vec<Vec<u64>> {
     let lengths = [0, items.len() / 2, items.len().saturating_sub(1)];
-    let mut simpler: Vec<Vec<T>> = lengths.map(|length| items[..length].to_vec()).into();
+    let mut simpler: Vec<Vec<u64>> = lengths.map(|length| items[..length].to_vec()).into();
     let mut run = items.len();
     while run > 3 {
         for start in (0..items.len()).step_by(run) {
@@ -160,18 +152,21 @@ fn simpler_items<T: Copy + Into<u64> + TryFrom<u64> + From<u8>>(items: &[T]) -> 
             changed[start..]
                 .iter_mut()
                 .take(run)
-                .for_each(|item| *item = T::from(0));
+                .for_each(|item| *item = 0);
             simpler.push(changed);
         }
         run /= 2;
     }
+    simpler
+}
+
+/// Lists with one item smaller.
+fn smaller_items(items: &[u64]) -> Vec<Vec<u64>> {
+    let mut simpler = Vec::new();
     for index in 0..items.len() {
-        for item in smaller(items[index].into())
-            .into_iter()
-            .flat_map(T::try_from)
-        {
+        for number in smaller(items[index]) {
             let mut changed = items.to_vec();
-            changed[index] = item;
+            changed[index] = number;
             simpler.push(changed);
         }
     }
@@ -179,71 +174,29 @@ fn simpler_items<T: Copy + Into<u64> + TryFrom<u64> + From<u8>>(items: &[T]) -> 
 }
 
 /// Record blocks with one field less.
-fn fewer_fields(block: &[u8]) -> Vec<Vec<u8>> {
-    let fields = blocks::fields(block).into_iter();
-    fields
-        .map(|field| [&block[..field.start], &block[field.end..]].concat())
-        .collect()
+fn fewer_fields(block: &[u64]) -> Vec<Vec<u64>> {
+    let bytes: Vec<u8> = block.iter().map(|item| *item as u8).collect();
+    let without = |field: Range<usize>| [&block[..field.start], &block[field.end..]].concat();
+    blocks::fields(&bytes).into_iter().map(without).collect()
 }
 
 /// Calls like this one with a simpler argument at this place.
 fn simpler_part(call: &Call, index: usize) -> Vec<Call> {
     let mut original = call.clone();
-    let set = |change: &dyn Fn(&mut Part<'_>)| {
+    let (name, part) = &original.parts()[index];
+    let items = part.items();
+    let mut simpler = Vec::new();
+    if matches!(*name, "slot" | "bridge_block") {
+        simpler.extend(fewer_fields(&items));
+    }
+    if part.is_buffer() {
+        simpler.extend(shorter_items(&items));
+    }
+    simpler.extend(smaller_items(&items));
+    let with_items = |items: Vec<u64>| {
         let mut changed = call.clone();
-        change(&mut changed.parts()[index].1);
+        changed.parts()[index].1.set_items(&items);
         changed
     };
-    let (name, part) = &mut original.parts()[index];
-    let numbers = |number: u64| {
-        smaller(number)
-            .into_iter()
-            .map(|n| set(&|part| set_number(part, n)))
-            .collect()
-    };
-    match part {
-        Part::Byte(number) => numbers(u64::from(**number)),
-        Part::Half(number) => numbers(u64::from(**number)),
-        Part::Word(number) => numbers(u64::from(**number)),
-        Part::Long(number) => numbers(**number),
-        Part::Bytes(bytes) => {
-            let fewer = if matches!(*name, "slot" | "bridge_block") {
-                fewer_fields(bytes.lent())
-            } else {
-                Vec::new()
-            };
-            let simpler = fewer.into_iter().chain(simpler_items(bytes.lent()));
-            simpler
-                .map(|items| set(&|part| set_bytes(part, &items)))
-                .collect()
-        }
-        Part::Words(words) => {
-            let simpler = simpler_items(words.lent()).into_iter();
-            simpler
-                .map(|items| set(&|part| set_words(part, &items)))
-                .collect()
-        }
-    }
-}
-
-fn set_number(part: &mut Part<'_>, number: u64) {
-    match part {
-        Part::Byte(place) => **place = number as u8,
-        Part::Half(place) => **place = number as u16,
-        Part::Word(place) => **place = number as u32,
-        Part::Long(place) => **place = number,
-        Part::Bytes(_) | Part::Words(_) => {}
-    }
-}
-
-fn set_bytes(part: &mut Part<'_>, items: &[u8]) {
-    if let Part::Bytes(bytes) = part {
-        bytes.replace(items);
-    }
-}
-
-fn set_words(part: &mut Part<'_>, items: &[u32]) {
-    if let Part::Words(words) = part {
-        words.replace(items);
-    }
+    simpler.into_iter().map(with_items).collect()
 }

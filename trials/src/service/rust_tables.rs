@@ -78,66 +78,73 @@ macro_rules! calls_of {
                         zeros,
                     )
                 }
-                _ => call_of_many_arguments(table, call),
+                Call::Osc { .. } => osc(table, call, zeros),
+                Call::Address { .. } => address(table, call, zeros),
+                Call::RegisterValues { .. } => register_values(table, call, zeros),
             }
         }
 
-        fn call_of_many_arguments(table: &mut Table, call: &mut Call) -> Given {
-            let zeros = Handed::zeros(call);
-            match call {
-                Call::Osc {
-                    session,
-                    bridge,
-                    revision,
-                    count,
-                    uuid,
-                    capabilities,
-                    answer,
-                } => {
-                    let (session, bridge) = (SessionNumber(*session), BridgeNumber(*bridge));
-                    let (uuid, capabilities, answer) =
-                        (uuid.lent(), capabilities.lent(), answer.lent_mut());
-                    let result = table.osc(
-                        session,
-                        bridge,
-                        *revision,
-                        *count,
-                        uuid,
-                        capabilities,
-                        answer,
-                    );
-                    given(result.map_err(Refusal::number), |()| Handed::Nothing, zeros)
-                }
-                Call::Address {
-                    session,
-                    bridge,
-                    bus,
-                    device,
-                    function,
-                    offset,
-                    width,
-                } => {
-                    let (session, bridge) = (SessionNumber(*session), BridgeNumber(*bridge));
-                    let result =
-                        table.address(session, bridge, *bus, *device, *function, *offset, *width);
-                    given(result.map_err(Refusal::number), Handed::Address, zeros)
-                }
-                Call::RegisterValues {
-                    session,
-                    bridge,
-                    slot,
-                    bridge_block,
-                    current,
-                } => {
-                    let (session, bridge) = (SessionNumber(*session), BridgeNumber(*bridge));
-                    let (slot, bridge_block, current) =
-                        (slot.lent(), bridge_block.lent(), current.lent());
-                    let result =
-                        table.register_values(session, bridge, slot, bridge_block, current);
-                    given(result.map_err(Refusal::number), Handed::Values, zeros)
-                }
-                _ => unreachable!("the other calls have few arguments"),
-            }
+        fn osc(table: &mut Table, call: &mut Call, zeros: Handed) -> Given {
+            let Call::Osc {
+                session,
+                bridge,
+                revision,
+                count,
+                uuid,
+                capabilities,
+                answer,
+            } = call
+            else {
+                unreachable!("the call is _OSC");
+            };
+            let (session, bridge) = (SessionNumber(*session), BridgeNumber(*bridge));
+            let (uuid, capabilities, answer) =
+                (uuid.lent(), capabilities.lent(), answer.lent_mut());
+            let result = table.osc(
+                session,
+                bridge,
+                *revision,
+                *count,
+                uuid,
+                capabilities,
+                answer,
+            );
+            given(result.map_err(Refusal::number), |()| Handed::Nothing, zeros)
+        }
+
+        fn address(table: &mut Table, call: &Call, zeros: Handed) -> Given {
+            let Call::Address {
+                session,
+                bridge,
+                bus,
+                device,
+                function,
+                offset,
+                width,
+            } = *call
+            else {
+                unreachable!("the call is address");
+            };
+            let (session, bridge) = (SessionNumber(session), BridgeNumber(bridge));
+            let result = table.address(session, bridge, bus, device, function, offset, width);
+            given(result.map_err(Refusal::number), Handed::Address, zeros)
+        }
+
+        fn register_values(table: &mut Table, call: &Call, zeros: Handed) -> Given {
+            let Call::RegisterValues {
+                session,
+                bridge,
+                slot,
+                bridge_block,
+                current,
+            } = call
+            else {
+                unreachable!("the call is register values");
+            };
+            let (session, bridge) = (SessionNumber(*session), BridgeNumber(*bridge));
+            let (slot, bridge_block, current) = (slot.lent(), bridge_block.lent(), current.lent());
+            let result = table.register_values(session, bridge, slot, bridge_block, current);
+            given(result.map_err(Refusal::number), Handed::Values, zeros)
         }
 
         fn place(place: $package::Place) -> Handed {
