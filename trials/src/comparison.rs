@@ -1,5 +1,7 @@
 //! Runs a list on two programs and compares after every call.
 
+use std::panic::{AssertUnwindSafe, catch_unwind};
+
 use crate::call::{Call, Given};
 use crate::rows::ROW;
 use crate::service::{Pair, Service};
@@ -15,6 +17,8 @@ pub struct Difference {
 
 #[derive(Clone, Debug, PartialEq, Eq)]
 pub enum What {
+    /// The program on one side panicked.
+    Panicked { side: usize },
     /// The number, or what is handed back beside it.
     Given([Given; 2]),
     /// A lent buffer, its guards included: both calls as they were left.
@@ -72,7 +76,10 @@ pub fn compare(list: &[Call], pair: &mut Pair, seen: &mut dyn FnMut(Agreed)) -> 
 pub fn compare_call(call: &Call, pair: &mut Pair) -> Result<(Call, Given), What> {
     let mut calls = [call.clone(), call.clone()];
     let [left, right] = &mut calls;
-    let given = [pair.left.call(left), pair.right.call(right)];
+    let given = [
+        made(&mut *pair.left, left).ok_or(What::Panicked { side: 0 })?,
+        made(&mut *pair.right, right).ok_or(What::Panicked { side: 1 })?,
+    ];
     if given[0] != given[1] {
         return Err(What::Given(given));
     }
@@ -89,6 +96,11 @@ pub fn compare_call(call: &Call, pair: &mut Pair) -> Result<(Call, Given), What>
     }
     let [left, _] = calls;
     Ok((left, given[0]))
+}
+
+/// What the call gives, or nothing if the program panics. The service is not used after that.
+fn made(service: &mut dyn Service, call: &mut Call) -> Option<Given> {
+    catch_unwind(AssertUnwindSafe(|| service.call(call))).ok()
 }
 
 /// Reports on every bridge under its owner, and on one bridge number after them.

@@ -88,7 +88,8 @@ fn bus_ranges(random: &mut Random, count: usize) -> Vec<Entry> {
             fresh += 0x101;
             continue;
         }
-        let length = random.pick(&[0, 1, 3, 15, 127, 255]);
+        let any = random.below(256);
+        let length = random.pick(&[0, 1, 3, 15, 127, 255, any]);
         let end = (start + length).min(255);
         entries.push(Entry {
             base: 0,

@@ -35,7 +35,7 @@ impl Display for Shown<'_> {
                 Part::Long(number) => write!(f, "{number:#x}")?,
                 Part::Bytes(bytes) => show_bytes(f, bytes.lent())?,
                 Part::Words(words) => {
-                    write!(f, "({} numbers) {:#x?}", words.lent().len(), words.lent())?
+                    write!(f, "({} numbers) {:x?}", words.lent().len(), words.lent())?
                 }
             }
         }
@@ -57,6 +57,7 @@ impl Display for Explained<'_> {
     fn fmt(&self, f: &mut fmt::Formatter<'_>) -> fmt::Result {
         let [left, right] = self.0.names;
         match &self.0.what {
+            What::Panicked { side } => write!(f, "{} panics", self.0.names[*side]),
             What::Given(given) => {
                 write!(
                     f,
@@ -77,7 +78,7 @@ impl Display for Explained<'_> {
                 let name = self.0.names[*side];
                 write!(
                     f,
-                    "{name} changed a buffer that is only read, or a byte beside a lent one: {:?}",
+                    "{name} changed a buffer that is only read, or a byte beside a lent one: {:x?}",
                     left
                 )
             }

@@ -7,23 +7,23 @@ use crate::call::{Call, Part};
 use crate::mcfg;
 use crate::rows::ROW;
 
-/// Smaller is simpler: calls, then lent items, then the sum of all numbers and items.
-type Size = (usize, usize, u128);
+/// Smaller is simpler: calls, then lent items, then items and numbers that are not 0, then the sum of them.
+type Size = (usize, usize, usize, u128);
 
 /// Lists that are tried at most, so that a difference is told in the end.
 const MOST_TRIES: usize = 200_000;
 
 fn size(list: &[Call]) -> Size {
-    let mut lent = 0;
-    let mut sum = 0;
+    let (mut lent, mut not_zero, mut sum) = (0, 0, 0);
     for call in list {
         for (_, part) in call.clone().parts() {
             let items = part.items();
             lent += if part.is_buffer() { items.len() } else { 0 };
+            not_zero += items.iter().filter(|item| **item != 0).count();
             sum += items.into_iter().map(u128::from).sum::<u128>();
         }
     }
-    (list.len(), lent, sum)
+    (list.len(), lent, not_zero, sum)
 }
 
 /// Takes calls, rows, entries and bytes away and makes numbers smaller, as long as the list still differs.
@@ -112,7 +112,7 @@ fn simpler_calls(call: &Call) -> Vec<Call> {
     simpler
 }
 
-/// MCFG tables with one entry less, or with one byte smaller, mended.
+/// MCFG tables with one entry less, with zeros in a run or with one byte smaller, mended.
 fn simpler_tables(table: &[u8]) -> Vec<Vec<u8>> {
     let mut simpler = Vec::new();
     for entry in (mcfg::HEADER..table.len()).step_by(mcfg::ENTRY) {
@@ -121,13 +121,13 @@ fn simpler_tables(table: &[u8]) -> Vec<Vec<u8>> {
         mcfg::mend(&mut fewer);
         simpler.push(fewer);
     }
-    for index in 10..table.len() {
-        for byte in smaller(u64::from(table[index])) {
-            let mut changed = table.to_vec();
-            changed[index] = byte as u8;
-            mcfg::mend_checksum(&mut changed);
-            simpler.push(changed);
-        }
+    let items: Vec<u64> = table.iter().copied().map(u64::from).collect();
+    let (fixed, free) = items.split_at(items.len().min(10));
+    for changed in zero_runs(free).into_iter().chain(smaller_items(free)) {
+        let items = fixed.iter().chain(&changed);
+        let mut bytes: Vec<u8> = items.map(|item| *item as u8).collect();
+        mcfg::mend_checksum(&mut bytes);
+        simpler.push(bytes);
     }
     simpler
 }
@@ -141,18 +141,20 @@ fn smaller(number: u64) -> Vec<u64> {
         .collect()
 }
 
-/// Shorter lists of items, then lists with zeros in a run.
 fn shorter_items(items: &[u64]) -> Vec<Vec<u64>> {
     let lengths = [0, items.len() / 2, items.len().saturating_sub(1)];
-    let mut simpler: Vec<Vec<u64>> = lengths.map(|length| items[..length].to_vec()).into();
+    lengths.map(|length| items[..length].to_vec()).into()
+}
+
+/// Lists with zeros in a run of items: all of them, a half, and so on down to 2.
+fn zero_runs(items: &[u64]) -> Vec<Vec<u64>> {
+    let mut simpler = Vec::new();
     let mut run = items.len();
-    while run > 3 {
+    while run > 1 {
         for start in (0..items.len()).step_by(run) {
             let mut changed = items.to_vec();
-            changed[start..]
-                .iter_mut()
-                .take(run)
-                .for_each(|item| *item = 0);
+            let zeroed = changed[start..].iter_mut().take(run);
+            zeroed.for_each(|item| *item = 0);
             simpler.push(changed);
         }
         run /= 2;
@@ -191,6 +193,7 @@ fn simpler_part(call: &Call, index: usize) -> Vec<Call> {
     }
     if part.is_buffer() {
         simpler.extend(shorter_items(&items));
+        simpler.extend(zero_runs(&items));
     }
     simpler.extend(smaller_items(&items));
     let with_items = |items: Vec<u64>| {

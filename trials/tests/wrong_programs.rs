@@ -379,6 +379,20 @@ fn a_number_changed_in_a_list_that_is_only_read() {
     );
 }
 
+fn panics_without_a_record(wrong: &mut Wrong, call: &mut Call) -> Given {
+    let given = wrong.reference.call(call);
+    if let (9, Call::FindRecord { .. }) = (given.number, call) {
+        panic!("the test expects this");
+    }
+    given
+}
+
+#[test]
+fn a_panic() {
+    let found = found(|| pair(panics_without_a_record));
+    assert_eq!(short_names(&found), ["find_record"]);
+}
+
 #[test]
 fn a_program_compared_with_itself_does_not_differ() {
     let setting = Setting {

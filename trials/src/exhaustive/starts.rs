@@ -28,10 +28,10 @@ const ENTRIES: [Entry; 4] = [
         end: 3,
     },
     Entry {
-        base: 0xFFFF_FFFF_F000_0000,
+        base: 0xFFFF_FFFF_F800_0000,
         segment: 0x0102,
-        start: 200,
-        end: 255,
+        start: 100,
+        end: 127,
     },
 ];
 
@@ -63,8 +63,8 @@ const ROWS: [Row; 4] = [
     Row {
         owner: 2,
         segment: 0x0102,
-        first: 255,
-        last: 255,
+        first: 127,
+        last: 127,
         kind: rows::EXPRESS,
         permitted: 0,
     },
