@@ -52,14 +52,7 @@ macro_rules! calls_of {
                 }
                 Call::Report { session, bridge } => {
                     let result = table.report(SessionNumber(*session), BridgeNumber(*bridge));
-                    given(
-                        result.map_err(Refusal::number),
-                        |holding| Handed::Holding {
-                            held: holding.held,
-                            supported: holding.supported,
-                        },
-                        zeros,
-                    )
+                    given(result.map_err(Refusal::number), holding, zeros)
                 }
                 Call::Locate { session, address } => {
                     let result = table.locate(SessionNumber(*session), *address);
@@ -145,6 +138,13 @@ macro_rules! calls_of {
             let (slot, bridge_block, current) = (slot.lent(), bridge_block.lent(), current.lent());
             let result = table.register_values(session, bridge, slot, bridge_block, current);
             given(result.map_err(Refusal::number), Handed::Values, zeros)
+        }
+
+        fn holding(holding: $package::Holding) -> Handed {
+            Handed::Holding {
+                held: holding.held,
+                supported: holding.supported,
+            }
         }
 
         fn place(place: $package::Place) -> Handed {
