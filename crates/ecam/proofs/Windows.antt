@@ -1,10 +1,10 @@
 -- The window of a bridge's buses, by the distance from the base; the sums of an address fit.
-use Prim.Native.Nat.{ℕ, _-_, _/_, _%_, _^_, _≤_, _<_}
+use Prim.Native.Nat.{ℕ, _+_, _-_, _/_, _%_, _^_, _≤_, _<_}
 use mathlib.Core.Path.{_≡_, refl}
 use mathlib.Core.Bool.{Bool, true, false, not, _&&_, _||_}
 use native.Mathlib.Omega.{arith}
 use lib.Dec.{eqb, leb, ltb}
-use borrow.Author.Tests.{leb-true, ltb-true, ltb-false, le-leb, lt-ltb, lt-leb}
+use borrow.Author.Tests.{leb-true, leb-false, ltb-true, ltb-false, le-leb, lt-ltb, lt-leb}
 use Rattle.rules.specs.Mcfg.{busStart, busEnd}
 use Rattle.rules.specs.Place.{placeBad, busOutside, inWindow}
 use Rattle.rules.specs.declared.Bridge.{Bridge}
@@ -36,6 +36,18 @@ by-distance b a h = same-test _ _ there back
         let q = leb-true (busStart (b .base) (b .«first_bus»)) a (p .0) in
         let r = ltb-true a (busEnd (b .base) (b .«last_bus»)) (p .1) in
         and-is (le-leb (b .«first_bus») ((a - b .base) / 1048576) (omega arith)) (le-leb ((a - b .base) / 1048576) (b .«last_bus») (omega arith))
+
+-- the distance by a subtraction that wraps, which counts only from the base on
+pub by-wrapped : (b : Bridge) (a d : ℕ) → (d + b .base) % 2 ^ 64 ≡ a → d < 2 ^ 64
+    → leb (b .base) a && leb (b .«first_bus») (d / 1048576) && leb (d / 1048576) (b .«last_bus») ≡ inWindow a b
+by-wrapped b a d e fits = go (leb (b .base) a) refl
+  where
+    go : (t : Bool) → leb (b .base) a ≡ t → t && leb (b .«first_bus») (d / 1048576) && leb (d / 1048576) (b .«last_bus») ≡ inWindow a b
+    go true f =
+        let above = leb-true (b .base) a f in
+        let is : d ≡ a - b .base = omega arith in
+        rw is (by-distance b a above)
+    go false f = below-base b a (leb-false (b .base) a f)
 
 -- what an address in the window has
 pub record InBuses (b : Bridge) (a : ℕ) : Type 0 where

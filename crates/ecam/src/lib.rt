@@ -50,15 +50,12 @@ pub fn address_of(b: Bridge, bus: u8, device: u8, function: u8, offset: u16) -> 
         + (offset as u64)
 }
 
-// Whether an address lies in the window of the bridge's buses. Nothing is added, so nothing wraps.
+// Whether an address lies in the window of the bridge's buses. Below the base the distance wraps and does not count; nothing is added to an address.
 pub fn in_window(b: Bridge, address: u64) -> bool
     ensures { λ r. ⌜ r ≡ inWindow address b ⌝ }
 {
-    if address < b.base {
-        return false;
-    }
-    let bus = (address - b.base) / BUS_BYTES;
-    ((b.first_bus as u64) <= bus) & (bus <= (b.last_bus as u64))
+    let bus = std::num::wrapping_sub_u64(address, b.base) / BUS_BYTES;
+    (b.base <= address) & ((b.first_bus as u64) <= bus) & (bus <= (b.last_bus as u64))
 }
 
 // The place of an address in the window of bridge n.
