@@ -81,8 +81,8 @@ pub fn register_values<'a>(slot: &'a [u8], block: &'a [u8], current: &[u32], aer
         (deciding (now (slot .entry)) (now (block .entry))) (now (current .entry))
         (recordIn (deciding (now (slot .entry)) (now (block .entry))) 2)) ⌝ }
 {
-    let found = search(slot, block, 2);
     let decided = deciding(slot, block);
+    let found = records::search_block(decided, 2);
     if found.number != 0 {
         return Values {
             number: found.number,

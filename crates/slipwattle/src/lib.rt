@@ -158,9 +158,17 @@ pub extern "C" fn slipwattle_find_record<'a>(slot: &'a [u8], block: &'a [u8], ki
     ensures { λ r. ⌜ r ≡ recordAt (now (slot .entry)) (now (block .entry)) kind ⌝ }
 {
     let found = hpx::search(slot, block, kind);
+    if found.number != 0 {
+        return RecordAt {
+            number: found.number,
+            in_slot: false,
+            start: 0,
+            size: 0,
+        };
+    }
     RecordAt {
-        number: found.number,
-        in_slot: (found.number == 0) & (slot.len() != 0),
+        number: 0,
+        in_slot: slot.len() != 0,
         start: found.start,
         size: found.size,
     }
