@@ -132,15 +132,15 @@ fn bridges_placed(number: u8, n: usize) -> usize
     0
 }
 
-// The table of the rows, each read where it stands, or a refusal and no bridges. There is one return, so that the places are copied once.
+// The table of the rows, each read where it stands, or a refusal and no bridges. There is one return, so that the places are copied once; they are cleared first, well before that.
 pub fn start_bytes(mcfg: &[u8], bytes: &[u8]) -> Started
     ensures { λ r. ⌜ (r .number ≡ bytesNumber (now (mcfg .entry)) (now (bytes .entry)))
         × (r .table ≡ bytesTable (now (mcfg .entry)) (now (bytes .entry))) ⌝ }
 {
+    let mut bridges = start::no_places();
     let first = first_number(mcfg, bytes);
     let n = rows_to_judge(first, bytes);
     let mut number = first;
-    let mut bridges = start::no_places();
     let mut i = 0;
     while i < n {
         let row = row_at(bytes, i);

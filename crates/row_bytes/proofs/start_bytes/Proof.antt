@@ -22,10 +22,10 @@ use Rattle.row_bytes.proofs.start_bytes.Statement.{statement}
 use Rattle.row_bytes.proofs.start_bytes.Tie as tie
 
 abbrev Inv-loop : tie.InvT-loop
-Inv-loop mcfg bytes first n number₀ bridges₀ i₀ number bridges i = Walked mcfg bytes first n number i bridges
+Inv-loop mcfg bytes bridges₀ first n number₀ i₀ bridges number i = Walked mcfg bytes first n number i bridges
 
 abbrev μ-loop : tie.MeasureT-loop
-μ-loop mcfg bytes first n number₀ bridges₀ i₀ number bridges i = n - i
+μ-loop mcfg bytes bridges₀ first n number₀ i₀ bridges number i = n - i
 
 -- a row is left to judge
 module _ (c : tie.In-loop Inv-loop μ-loop) where
@@ -39,19 +39,19 @@ module _ (c : tie.In-loop Inv-loop μ-loop) where
   i = c .before .loop .i
 
   abbrev first : ℕ
-  first = c .before .before .before .before .first-number .result
+  first = c .before .before .before .first-number .result
 
   abbrev n : ℕ
-  n = c .before .before .before .rows-to-judge .result
+  n = c .before .before .rows-to-judge .result
 
   there : i < rowCount b
   there =
-      row-left m b first n (c .before .before .before .before .first-number .ensures) (c .before .before .before .rows-to-judge .ensures) (c .before .loop .number) i
+      row-left m b first n (c .before .before .before .first-number .ensures) (c .before .before .rows-to-judge .ensures) (c .before .loop .number) i
       (c .before .loop .bridges) (c .before .loop .inv) (c .loop-test .taken)
 
   placed : i < maxRows
   placed =
-      room m b first n (c .before .before .before .before .first-number .ensures) (c .before .before .before .rows-to-judge .ensures) (c .before .loop .number) i
+      room m b first n (c .before .before .before .first-number .ensures) (c .before .before .rows-to-judge .ensures) (c .before .loop .number) i
       (c .before .loop .bridges) (c .before .loop .inv) (c .loop-test .taken)
 
 -- it is judged: its number and its bridge are as start's walk takes them
@@ -64,21 +64,21 @@ judged c =
     row-judged (entries (m t)) (rowsOf (b t)) (i t) (c .before .before .row-at .result) (rows-at (b t) (i t) (there t) noRow ∙ sym (c .before .before .row-at .ensures))
     (c .before .apart-before .result) (c .before .apart-before .ensures) (c .admit .result .number) (c .admit .result .bridge) (c .admit .ensures .0) (c .admit .ensures .1)
 
+no-places-requires : tie.Need-no-places-requires Inv-loop μ-loop
+no-places-requires c κs = search needs
+
 first-number-requires : tie.Need-first-number-requires Inv-loop μ-loop
 first-number-requires c κs = search needs
 
 rows-to-judge-requires : tie.Need-rows-to-judge-requires Inv-loop μ-loop
 rows-to-judge-requires c κs = search needs
 
-no-places-requires : tie.Need-no-places-requires Inv-loop μ-loop
-no-places-requires c κs = search needs
-
 loop-holds : tie.Need-loop-holds Inv-loop μ-loop
 loop-holds c =
-    let f = c .before .before in
-    let a = f .before .before .before .args in
-    rw (c .no-places .ensures)
-    (walked-none (now (a .mcfg)) (now (a .bytes)) (f .first-number .result) (c .before .rows-to-judge .result) (f .first-number .ensures) (c .before .rows-to-judge .ensures))
+    let f = c .before in
+    let a = f .before .before .before .before .args in
+    rw (f .before .no-places .ensures)
+    (walked-none (now (a .mcfg)) (now (a .bytes)) (f .first-number .result) (c .rows-to-judge .result) (f .first-number .ensures) (c .rows-to-judge .ensures))
 
 row-at-requires : tie.Need-row-at-requires Inv-loop μ-loop
 row-at-requires c κs = omega (arith, there c)
@@ -109,7 +109,7 @@ loop-again : tie.Need-loop-again Inv-loop μ-loop
 loop-again c =
     let d = c .before .before in
     let t = d .before .before .before in
-    let f = t .before .before .before in
+    let f = t .before .before in
     rw (c .following .ensures)
     (walked-more (m t) (b t) (first t) (n t) (f .before .first-number .ensures) (f .rows-to-judge .ensures) (t .before .loop .number) (i t) (t .before .loop .bridges) (t .before .loop .inv)
     (t .loop-test .taken) (d .admit .result .number) (d .admit .result .bridge) (judged d .0) (judged d .1))
@@ -124,8 +124,8 @@ returns : tie.Need-returns Inv-loop μ-loop
 returns c =
     let j = c .before in
     let l = j .before .before in
-    let r = l .before .before in
-    let a = r .before .before .before .before .args in
+    let r = l .before in
+    let a = r .before .before .before .before .before .args in
     ⊎-elim
     (λ w. walked-refused (now (a .mcfg)) (now (a .bytes)) (r .before .first-number .result) (r .rows-to-judge .result) (r .before .first-number .ensures) (r .rows-to-judge .ensures)
     (l .loop .number) (l .loop .i) (l .loop .bridges) (l .loop .inv) (j .before .loop-test .left) (j .if1 .bridges) (c .bridges-placed .result) (c .bridges-placed .ensures) (w .0 .taken) (w .2 ∙ w .1 .ensures))
@@ -139,9 +139,9 @@ start-bytes-spec =
     (tie.spec
     Inv-loop
     μ-loop
+    no-places-requires
     first-number-requires
     rows-to-judge-requires
-    no-places-requires
     loop-holds
     row-at-requires
     apart-before-requires

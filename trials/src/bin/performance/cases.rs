@@ -1,0 +1,396 @@
+//! The calls that are timed, each with its inputs.
+
+use crate::timing::{Figure, timed};
+use slipwattle::sys;
+use trials::blocks::{field, numbers_field};
+use trials::mcfg::{self, Entry};
+use trials::random::Random;
+use trials::rows::{self, Row};
+
+const UUID: [u8; 16] = [
+    0x5b, 0x4d, 0xdb, 0x33, 0xf7, 0x1f, 0x1c, 0x40, 0x96, 0x57, 0x74, 0x41, 0xc0, 0x3d, 0xd7, 0x66,
+];
+
+/// The bridge that most calls name; bridge number and owner are the same number in every table here.
+const BRIDGE: u8 = 9;
+
+/// An MCFG table: entry `k` is segment `k`, buses 0 to 255, a window of its own.
+fn mcfg_table(entries: u8) -> Vec<u8> {
+    let entry = |k: u8| Entry {
+        base: (u64::from(k) + 1) << 32,
+        segment: k.into(),
+        start: 0,
+        end: 255,
+    };
+    let entries: Vec<Entry> = (0..entries).map(entry).collect();
+    mcfg::table(&mut Random::new(1), &entries)
+}
+
+/// Row `k` of owner `k`: 16 buses of segment `k` or, where all are in one, of segment 0.
+fn row_bytes(count: u8, one_segment: bool) -> Vec<u8> {
+    let row = |k: u8| Row {
+        owner: k,
+        segment: if one_segment { 0 } else { k.into() },
+        first: 16 * k,
+        last: 16 * k + 15,
+        kind: 0,
+        permitted: 0x1f,
+    };
+    let rows: Vec<Row> = (0..count).map(row).collect();
+    rows::bytes(&rows)
+}
+
+/// The same table on both sides.
+struct Tables {
+    ours: sys::Table,
+    theirs: reference::Table,
+}
+
+fn tables() -> Tables {
+    let (m, r) = (mcfg_table(16), row_bytes(16, false));
+    // SAFETY: pointers and lengths of two slices.
+    let started = unsafe { sys::slipwattle_start(m.as_ptr(), m.len(), r.as_ptr(), r.len()) };
+    assert_eq!(started.number, 0);
+    let theirs = reference::Table::start_bytes(&m, &r).expect("a sound start");
+    Tables {
+        ours: started.table,
+        theirs,
+    }
+}
+
+fn session(number: u8) -> (sys::SessionNumber, reference::SessionNumber) {
+    (
+        sys::SessionNumber { number },
+        reference::SessionNumber(number),
+    )
+}
+
+fn bridge(number: u8) -> (sys::BridgeNumber, reference::BridgeNumber) {
+    (
+        sys::BridgeNumber { number },
+        reference::BridgeNumber(number),
+    )
+}
+
+fn start(name: &'static str, m: &[u8], r: &[u8]) -> Figure {
+    timed(
+        name,
+        // SAFETY: pointers and lengths of two slices.
+        || unsafe { sys::slipwattle_start(m.as_ptr(), m.len(), r.as_ptr(), r.len()) },
+        || reference::Table::start_bytes(m, r),
+    )
+}
+
+fn starts() -> Vec<Figure> {
+    let mut bad_sum = mcfg_table(16);
+    bad_sum[9] ^= 1;
+    let mut shared_bus = row_bytes(16, true);
+    shared_bus[153] -= 1;
+    vec![
+        start("start, 1 entry, 1 row", &mcfg_table(1), &row_bytes(1, true)),
+        start(
+            "start, 1 entry, 16 rows",
+            &mcfg_table(1),
+            &row_bytes(16, true),
+        ),
+        start(
+            "start, 16 entries, 16 rows",
+            &mcfg_table(16),
+            &row_bytes(16, false),
+        ),
+        start(
+            "start, wrong checksum, 16 entries: refusal 6",
+            &bad_sum,
+            &row_bytes(16, false),
+        ),
+        start(
+            "start, a bus shared by the last two of 16 rows: refusal 7",
+            &mcfg_table(1),
+            &shared_bus,
+        ),
+    ]
+}
+
+/// One _OSC request.
+struct Request {
+    session: u8,
+    revision: u32,
+    uuid: [u8; 16],
+    dwords: Vec<u32>,
+}
+
+fn osc(name: &'static str, q: &Request) -> Figure {
+    let mut t = tables();
+    let (s, n) = (session(q.session), bridge(BRIDGE));
+    let caps: Vec<u8> = q.dwords.iter().flat_map(|d| d.to_le_bytes()).collect();
+    let count = q.dwords.len() as u32;
+    let (mut a, mut b) = (vec![0u8; caps.len()], vec![0u8; caps.len()]);
+    let (revision, uuid) = (q.revision, &q.uuid);
+    timed(
+        name,
+        // SAFETY: a started table, pointers and lengths of slices that do not overlap.
+        || unsafe {
+            let (caps, a) = ((caps.as_ptr(), caps.len()), (a.as_mut_ptr(), a.len()));
+            sys::slipwattle_osc(
+                &mut t.ours,
+                s.0,
+                n.0,
+                revision,
+                count,
+                uuid.as_ptr(),
+                uuid.len(),
+                caps.0,
+                caps.1,
+                a.0,
+                a.1,
+            )
+        },
+        || t.theirs.osc(s.1, n.1, revision, count, uuid, &caps, &mut b),
+    )
+}
+
+fn oscs() -> Vec<Figure> {
+    let request = |session, revision, uuid, dwords: &[u32]| Request {
+        session,
+        revision,
+        uuid,
+        dwords: dwords.to_vec(),
+    };
+    let mut unknown = UUID;
+    unknown[15] ^= 1;
+    vec![
+        osc("_OSC, query", &request(BRIDGE, 1, UUID, &[1, 0x1f, 0x1f])),
+        osc(
+            "_OSC, taking call",
+            &request(BRIDGE, 1, UUID, &[0, 0x1f, 0x1f]),
+        ),
+        osc(
+            "_OSC, taking call, some bits masked",
+            &request(BRIDGE, 1, UUID, &[0, 0x1f, 0x3f]),
+        ),
+        osc(
+            "_OSC, unknown UUID: status 0x04",
+            &request(BRIDGE, 1, unknown, &[0, 0x1f, 0x1f]),
+        ),
+        osc(
+            "_OSC, Count 8: status 0x02",
+            &request(BRIDGE, 1, UUID, &[0; 8]),
+        ),
+        osc(
+            "_OSC, not the owner: refusal 2",
+            &request(BRIDGE + 1, 1, UUID, &[0, 0x1f, 0x1f]),
+        ),
+    ]
+}
+
+fn reset() -> Figure {
+    let mut t = tables();
+    let (s, n) = (session(BRIDGE), bridge(BRIDGE));
+    // SAFETY: a started table.
+    timed(
+        "reset",
+        || unsafe { sys::slipwattle_reset(&mut t.ours, s.0, n.0) },
+        || t.theirs.reset(s.1, n.1),
+    )
+}
+
+fn report(name: &'static str, number: u8) -> Figure {
+    let mut t = tables();
+    let (s, n) = (session(number), bridge(BRIDGE));
+    // SAFETY: a started table.
+    timed(
+        name,
+        || unsafe { sys::slipwattle_report(&mut t.ours, s.0, n.0) },
+        || t.theirs.report(s.1, n.1),
+    )
+}
+
+fn address(name: &'static str, bus: u8, offset: u16) -> Figure {
+    let mut t = tables();
+    let (s, n) = (session(BRIDGE), bridge(BRIDGE));
+    timed(
+        name,
+        // SAFETY: a started table.
+        || unsafe { sys::slipwattle_address(&mut t.ours, s.0, n.0, bus, 2, 3, offset, 4) },
+        || t.theirs.address(s.1, n.1, bus, 2, 3, offset, 4),
+    )
+}
+
+/// An address in the window of a bridge's row, read back under a session.
+fn locate(name: &'static str, owner: u8, row: u8) -> Figure {
+    let mut t = tables();
+    let s = session(owner);
+    let address = ((u64::from(row) + 1) << 32) + (u64::from(row) << 24) + 0x13010;
+    // SAFETY: a started table.
+    timed(
+        name,
+        || unsafe { sys::slipwattle_locate(&mut t.ours, s.0, address) },
+        || t.theirs.locate(s.1, address),
+    )
+}
+
+/// The 42-byte example of document 01's bench sheet.
+fn example_block() -> Vec<u8> {
+    [
+        numbers_field(0, 1, &[8, 0x40, 1, 0]),
+        numbers_field(1, 1, &[3, 4, 7]),
+    ]
+    .concat()
+}
+
+fn type_2() -> Vec<u8> {
+    let pairs = [
+        0xffff_fff0,
+        6,
+        0xffff,
+        0x10,
+        0xfff,
+        0,
+        0xff,
+        1,
+        0xfff0,
+        6,
+        0xfff0,
+        6,
+        0xffff_ffff,
+        0,
+        0xffff_fff0,
+        6,
+    ];
+    numbers_field(2, 1, &pairs)
+}
+
+/// The three records behind 81 skipped fields of 8 bytes, 1,004 bytes in all.
+fn long_block() -> Vec<u8> {
+    let skipped: Vec<u8> = (0..81).flat_map(|_| field(0x80, &[0x55; 8])).collect();
+    [skipped, example_block(), type_2()].concat()
+}
+
+fn find_record(name: &'static str, slot: &[u8], kind: u8) -> Figure {
+    let block: &[u8] = &[];
+    timed(
+        name,
+        // SAFETY: pointers and lengths of two slices.
+        || unsafe {
+            sys::slipwattle_find_record(
+                slot.as_ptr(),
+                slot.len(),
+                block.as_ptr(),
+                block.len(),
+                kind,
+            )
+        },
+        || reference::find_record(slot, block, kind),
+    )
+}
+
+fn records() -> Vec<Figure> {
+    let (short, long) = (example_block(), long_block());
+    let mut cut = long.clone();
+    cut.pop();
+    vec![
+        find_record("record search, 42 bytes", &short, 1),
+        find_record("record search, 71 bytes", &type_2(), 2),
+        find_record("record search, 1,004 bytes in 84 fields", &long, 2),
+        find_record(
+            "record search, 1,003 bytes, the last field cut: refusal 8",
+            &cut,
+            2,
+        ),
+        find_record(
+            "record search, 42 bytes, no such record: refusal 9",
+            &short,
+            2,
+        ),
+    ]
+}
+
+fn register_values(name: &'static str, control: u32, slot: &[u8]) -> Figure {
+    let mut t = tables();
+    let (s, n) = (session(BRIDGE), bridge(BRIDGE));
+    let caps: Vec<u8> = [0, 0x1f, control]
+        .iter()
+        .flat_map(|d: &u32| d.to_le_bytes())
+        .collect();
+    let mut answer = vec![0; 12];
+    // SAFETY: a started table, pointers and lengths of slices that do not overlap.
+    let taken = unsafe {
+        sys::slipwattle_osc(
+            &mut t.ours,
+            s.0,
+            n.0,
+            1,
+            3,
+            UUID.as_ptr(),
+            16,
+            caps.as_ptr(),
+            12,
+            answer.as_mut_ptr(),
+            12,
+        )
+    };
+    assert_eq!(taken, 0);
+    assert_eq!(
+        t.theirs.osc(s.1, n.1, 1, 3, &UUID, &caps, &mut answer),
+        Ok(())
+    );
+    let current: [u32; 8] = [0x2110, 1, 2, 3, 0x2110, 5, 6, 7];
+    let block: &[u8] = &[];
+    timed(
+        name,
+        // SAFETY: a started table, pointers and lengths of slices.
+        || unsafe {
+            sys::slipwattle_register_values(
+                &mut t.ours,
+                s.0,
+                n.0,
+                slot.as_ptr(),
+                slot.len(),
+                block.as_ptr(),
+                block.len(),
+                current.as_ptr(),
+                8,
+            )
+        },
+        || t.theirs.register_values(s.1, n.1, slot, block, &current),
+    )
+}
+
+pub fn all() -> Vec<Figure> {
+    let mut figures = starts();
+    figures.extend(oscs());
+    figures.push(reset());
+    figures.push(report("report", BRIDGE));
+    figures.push(report("report, not the owner: refusal 2", BRIDGE + 1));
+    figures.push(address("address", 16 * BRIDGE + 1, 0x10));
+    figures.push(address(
+        "address, offset 4094: refusal 5",
+        16 * BRIDGE + 1,
+        4094,
+    ));
+    figures.push(address("address, bus outside: refusal 4", 0, 0x10));
+    figures.push(locate("address read back, the first of 16 rows", 0, 0));
+    figures.push(locate("address read back, the last of 16 rows", 15, 15));
+    figures.push(locate(
+        "address read back, another session's: refusal 4",
+        3,
+        15,
+    ));
+    figures.extend(records());
+    figures.push(register_values(
+        "register values, AER held, 71 bytes",
+        0x1f,
+        &type_2(),
+    ));
+    figures.push(register_values(
+        "register values, AER not held, 71 bytes",
+        0x11,
+        &type_2(),
+    ));
+    figures.push(register_values(
+        "register values, AER not held, 1,004 bytes",
+        0x11,
+        &long_block(),
+    ));
+    figures
+}
