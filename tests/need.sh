@@ -1,5 +1,11 @@
 # For tests that need more than the Rattle toolchain; they source it. What is missing is not tried, or, where SLIPWATTLE_ALL is 1, is a failure.
 
+# cargo may stand outside PATH, in the user's own folder.
+if ! command -v cargo > /dev/null; then
+    home=${HOME:-$(getent passwd "$(id -u)" | cut -d: -f6)}
+    export PATH="$PATH:${CARGO_HOME:-$home/.cargo}/bin"
+fi
+
 # missing TEST WHAT: says so.
 missing() {
     echo "$1: no $2 here, so it is not tried"
