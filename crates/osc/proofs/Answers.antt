@@ -1,10 +1,11 @@
 -- The answer buffer, and what the bridge holds after the call.
-use Prim.Native.Nat.{ℕ, zero, suc, _+_, _-_, _*_}
-use mathlib.Core.Path.{_≡_, refl, ap, _∙_}
+use Prim.Native.Nat.{ℕ, zero, suc, _+_, _-_, _*_, _≤_}
+use mathlib.Core.Path.{_≡_, refl, sym, ap, _∙_}
 use mathlib.Core.Bool.{Bool, true, false, cond, not}
 use mathlib.Core.List.{List, [], _++_}
 use native.Mathlib.Omega.{arith}
-use lib.ListN.{length, take, drop, replicate, drop-of-length-le, length-drop}
+use lib.ListN.{length, take, drop, replicate, drop-of-length-le, length-append, length-drop, length-replicate}
+use lib.Seq.{take-all, take-at, take-add, length-take-le}
 use Rattle.rules.specs.Numbers.{le32}
 use Rattle.rules.specs.Tables.{holding}
 use Rattle.rules.specs.Osc.{granted, grantStatus, recognised, errorStatus, query, support, control, oscAnswer, joined, oscAfter}
@@ -36,10 +37,45 @@ drop-zeros (suc k) (suc n) = drop-zeros k n ∙ ap (λ (m : ℕ). replicate {A =
     both : (n k : ℕ) → n - k ≡ suc n - suc k
     both n k = omega arith
 
--- a status over zeros
-pub status-written : (b : List ℕ) (x : ℕ) (b₁ b₂ : List ℕ) → b₁ ≡ replicate (length b) 0
-    → b₂ ≡ take 0 b₁ ++ le32 x ++ drop 4 b₁ → b₂ ≡ le32 x ++ replicate (length b - 4) 0
-status-written b x b₁ b₂ e₁ e₂ = rw (e₂, e₁, drop-zeros 4)
+-- ---- an error's answer, written from the front on: the buffer is right up to `at`
+
+-- a status, and zeros to length n
+abbrev pub errorBytes : ℕ → ℕ → List ℕ
+errorBytes x n = le32 x ++ replicate (n - 4) 0
+
+-- a buffer that is right up to its end is the answer
+pub all-right : (a : List ℕ) (x n at : ℕ) → 4 ≤ n → n ≤ at → length a ≡ n → take at a ≡ take at (errorBytes x n) → a ≡ errorBytes x n
+all-right a x n at f h l i = sym (take-all at a (omega arith)) ∙ i ∙ take-all at (errorBytes x n) (simp length-replicate (omega arith))
+
+-- zeros from `at` on
+zeros-left : (x n at : ℕ) → 4 ≤ at → drop at (errorBytes x n) ≡ replicate (n - 4 - (at - 4)) 0
+zeros-left x n at f = ap (λ (k : ℕ). drop k (errorBytes x n)) (past-status at f) ∙ drop-zeros (at - 4) (n - 4)
+  where
+    past-status : (at : ℕ) → 4 ≤ at → at ≡ suc (suc (suc (suc (at - 4))))
+    past-status at f = omega arith
+
+zero-dword : (m : ℕ) → 4 ≤ m → take 4 (replicate m 0) ≡ le32 0
+zero-dword m f = ap (λ (k : ℕ). take {A = ℕ} 4 (replicate k 0)) (four-more m f)
+  where
+    four-more : (m : ℕ) → 4 ≤ m → m ≡ suc (suc (suc (suc (m - 4))))
+    four-more m f = omega arith
+
+-- a DWORD of 0 more
+pub more-right : (a : List ℕ) (x n at : ℕ) (a₁ : List ℕ) → 4 ≤ at → at + 4 ≤ n → length a ≡ n → a₁ ≡ take at a ++ le32 0 ++ drop (4 + at) a
+    → take at a ≡ take at (errorBytes x n) → take (at + 4) a₁ ≡ take (at + 4) (errorBytes x n)
+more-right a x n at a₁ f h l e i =
+    ap (take (at + 4)) e ∙ front ∙ ap (λ (y : List ℕ). y ++ le32 0) i ∙ sym back
+  where
+    long : length (take at a ++ le32 0) ≡ at + 4
+    long = length-append (take at a) (le32 0) ∙ ap (λ (k : ℕ). k + 4) (length-take-le at a (omega arith))
+
+    front : take (at + 4) (take at a ++ le32 0 ++ drop (4 + at) a) ≡ take at a ++ le32 0
+    front = take-at (take at a ++ le32 0) (drop (4 + at) a) (at + 4) long
+
+    back : take (at + 4) (errorBytes x n) ≡ take at (errorBytes x n) ++ le32 0
+    back =
+        take-add at 4 (errorBytes x n)
+        ∙ ap (λ (y : List ℕ). take at (errorBytes x n) ++ y) (ap (take 4) (zeros-left x n at f) ∙ zero-dword (n - 4 - (at - 4)) (omega arith))
 
 module _ (b : Bridge) (revision count : ℕ) (uuid caps : List ℕ) where
   -- an error: its status, zeros, and nothing added

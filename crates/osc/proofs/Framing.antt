@@ -1,12 +1,12 @@
 -- What a framed call has, and what the error status says.
-use Prim.Native.Nat.{ℕ, _*_, _≤_, _<_}
+use Prim.Native.Nat.{ℕ, _*_, _%_, _≤_, _<_}
 use mathlib.Core.Path.{_≡_, refl, sym, _∙_}
 use mathlib.Core.Bool.{Bool, true, false, cond, not, _&&_, _||_}
 use mathlib.Core.List.{List}
 use native.Mathlib.Omega.{arith}
 use lib.Dec.{eqb, ltb}
 use lib.ListN.{length}
-use borrow.Author.Tests.{eqb-true, eqb-false, eq-eqb, ne-eqb, lt-ltb, le-ltb, not-false}
+use borrow.Author.Tests.{eqb-true, eqb-false, ltb-false, eq-eqb, ne-eqb, lt-ltb, le-ltb, not-false}
 use Rattle.rules.specs.Numbers.{sameBytes}
 use Rattle.rules.specs.Osc.{uuidBytes, framingBad, recognised, errorStatus}
 use Rattle.rules.proofs.Tests.{or-false, and-true}
@@ -14,6 +14,7 @@ use Rattle.rules.proofs.Tests.{or-false, and-true}
 -- a call that refusal 3 does not meet
 pub record Framed (count : ℕ) (uuid caps answer : List ℕ) : Type 0 where
   pub some-dwords : (count ≡ 0 → ⊥)
+  pub at-most-8 : count ≤ 8
   pub capabilities-long : length caps ≡ 4 * count
   pub answer-long : length answer ≡ 4 * count
 
@@ -26,6 +27,7 @@ framed count uuid caps answer e =
     let z = or-false (not (eqb (length uuid) 16)) (eqb count 0) (h .0) in
     record {
       some-dwords = eqb-false count 0 (z .1);
+      at-most-8 = ltb-false 8 count (h .1);
       capabilities-long = eqb-true (length caps) (4 * count) (not-false (eqb (length caps) (4 * count)) (c .1));
       answer-long = eqb-true (length answer) (4 * count) (not-false (eqb (length answer) (4 * count)) (a .1));
     }
@@ -87,14 +89,15 @@ three-dwords revision count uuid caps answer f e =
     let h = framed count uuid caps answer f in
     record { capabilities-are = omega (arith, h .capabilities-long); answer-is = omega (arith, h .answer-long) }
 
--- a framed call has at least one DWORD of answer
-pub one-dword : (count : ℕ) (uuid caps answer : List ℕ) → framingBad count uuid caps answer ≡ false → 4 ≤ length answer
-one-dword count uuid caps answer f =
+-- a framed call has one to eight DWORDs of answer
+pub some-to-8 : (count : ℕ) (uuid caps answer : List ℕ) → framingBad count uuid caps answer ≡ false
+    → (4 ≤ length answer) × (length answer ≤ 32) × (length answer % 4 ≡ 0)
+some-to-8 count uuid caps answer f =
     let h = framed count uuid caps answer f in
-    go count (h .some-dwords) (h .answer-long)
+    go count (h .some-dwords) (h .at-most-8) (h .answer-long)
   where
-    go : (count : ℕ) → (count ≡ 0 → ⊥) → length answer ≡ 4 * count → 4 ≤ length answer
-    go count n e = omega (arith, e, positive count n)
+    go : (count : ℕ) → (count ≡ 0 → ⊥) → count ≤ 8 → length answer ≡ 4 * count → (4 ≤ length answer) × (length answer ≤ 32) × (length answer % 4 ≡ 0)
+    go count n m e = (omega (arith, e, positive count n), omega (arith, e), omega (arith, e))
       where
         positive : (k : ℕ) → (k ≡ 0 → ⊥) → 1 ≤ k
         positive k n = omega arith

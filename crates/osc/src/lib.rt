@@ -6,7 +6,7 @@ use rules::constants::KNOWN_SUPPORT;
 ghost use mathlib.Core.Path.{_≡_};
 ghost use mathlib.Core.Bool.{false, cond};
 ghost use mathlib.Core.List.{_++_};
-ghost use Prim.Native.Nat.{_-_, _≤_};
+ghost use Prim.Native.Nat.{_-_, _%_, _≤_};
 ghost use lib.ListN.{length, replicate};
 ghost use Rattle.osc.specs.Needs.{needsMet};
 ghost use Rattle.rules.specs.Numbers.{le32, sameBytes};
@@ -113,13 +113,19 @@ fn grant_status(requested: u32, granted: u32) -> u32
     0x10
 }
 
-// A status, and zeros to the end.
+// A status, and zeros to the end. The steps are counted to the greatest length, so that the compiler writes each of them out and calls no memset.
 fn write_error(answer: &mut [u8], status: u32)
-    requires { ⌜ 4 ≤ length (now answer) ⌝ }
+    requires { ⌜ (4 ≤ length (now answer)) × (length (now answer) ≤ 32) × (length (now answer) % 4 ≡ 0) ⌝ }
     ensures { λ _. ⌜ now (answer .exit) ≡ le32 status ++ replicate (length (now (answer .entry)) - 4) 0 ⌝ }
 {
-    words::clear(answer);
     words::write32(answer, 0, status);
+    let mut at = 4;
+    while at < 32 {
+        if at < answer.len() {
+            words::write32(answer, at, 0);
+        }
+        at += 4;
+    }
 }
 
 // Status, support and control: the whole buffer.

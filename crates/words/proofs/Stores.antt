@@ -1,10 +1,10 @@
--- Bytes stored one by one: a DWORD, and zeros to the end.
+-- Bytes stored one by one: a DWORD.
 use Prim.Native.Nat.{ℕ, suc, _+_, _≤_}
 use mathlib.Core.Path.{_≡_}
-use mathlib.Core.List.{List, [], _∷_, _++_, append-nil}
+use mathlib.Core.List.{List, [], _∷_, _++_}
 use native.Mathlib.Omega.{arith}
-use lib.ListN.{length, take, drop, set, replicate}
-use lib.Seq.{sets-eq, drop-length}
+use lib.ListN.{length, take, drop, set}
+use lib.Seq.{sets-eq}
 
 -- four stores are a splice
 pub four-stored : (b : List ℕ) (at w x y z : ℕ) → 4 + at ≤ length b
@@ -22,7 +22,3 @@ four-stored b at w x y z h = simp (one, two, three, four) (sets-eq (w ∷ x ∷ 
 
     four : 4 + at ≡ at + 4
     four = omega arith
-
--- a buffer filled to its end
-pub filled : (d : List ℕ) (i : ℕ) → i ≡ length d → replicate i 0 ++ drop i d ≡ replicate (length d) 0
-filled d i e = rw (e, drop-length, append-nil)

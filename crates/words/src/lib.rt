@@ -2,7 +2,7 @@
 ghost use mathlib.Core.Path.{_≡_};
 ghost use mathlib.Core.List.{_++_};
 ghost use Prim.Native.Nat.{_+_, _≤_, _<_, _%_};
-ghost use lib.ListN.{length, take, drop, replicate};
+ghost use lib.ListN.{length, take, drop};
 ghost use Rattle.rules.specs.Numbers.{word, dword, qword, le32, sum, sameBytes};
 
 // A byte, widened.
@@ -20,12 +20,13 @@ pub fn read16(b: &[u8], at: usize) -> u16
     (wide(b[at]) + wide(b[1 + at]) * 256) as u16
 }
 
-// The 4 bytes at a place.
+// The 4 bytes at a place. Of one sum of bytes the compiler makes one load; of two read16 it makes two.
 pub fn read32(b: &[u8], at: usize) -> u32
     requires { ⌜ 4 + at ≤ length (now b) ⌝ }
     ensures { λ r. ⌜ r ≡ dword (now (b .entry)) at ⌝ }
 {
-    (read16(b, at) as u32) + (read16(b, 2 + at) as u32) * 65536
+    let high = 2 + at;
+    wide(b[at]) + wide(b[1 + at]) * 256 + wide(b[high]) * 65536 + wide(b[1 + high]) * 16777216
 }
 
 // The 8 bytes at a place.
@@ -45,17 +46,6 @@ pub fn write32(b: &mut [u8], at: usize, v: u32)
     b[1 + at] = (v / 256 % 256) as u8;
     b[2 + at] = (v / 65536 % 256) as u8;
     b[3 + at] = (v / 16777216 % 256) as u8;
-}
-
-// Every byte 0.
-pub fn clear(b: &mut [u8])
-    ensures { λ _. ⌜ now (b .exit) ≡ replicate (length (now (b .entry))) 0 ⌝ }
-{
-    let mut i = 0;
-    while i < b.len() {
-        b[i] = 0;
-        i += 1;
-    }
 }
 
 // Whether two byte strings are the same. Every byte is compared, so that a string of known length costs one comparison of words.

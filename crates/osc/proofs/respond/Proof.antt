@@ -4,7 +4,7 @@ use native.Mathlib.Omega.{arith}
 use mathlib.Core.Path.{_≡_, _∙_, ap}
 use mathlib.Core.Bool.{true}
 use Rattle.rules.specs.Osc.{granted as grantedOf, recognised}
-use Rattle.osc.proofs.Framing.{ThreeDwords, framed, no-error, an-error, three-dwords, one-dword}
+use Rattle.osc.proofs.Framing.{ThreeDwords, framed, no-error, an-error, three-dwords, some-to-8}
 use Rattle.osc.proofs.Answers.{error-answer, error-after, granted-answer, granted-after}
 use borrow.Author.Needs.{needs}
 use Rattle.osc.proofs.respond.Statement.{statement}
@@ -29,7 +29,7 @@ error-status-requires c κs = search needs
 write-error-requires : tie.Need-write-error-requires
 write-error-requires c κs =
     let a = c .before .before .before .before .before .before in
-    one-dword (a .args .count) (now (a .args .uuid)) (now (a .args .caps)) (now (a .args .answer)) (a .pre)
+    some-to-8 (a .args .count) (now (a .args .uuid)) (now (a .args .caps)) (now (a .args .answer)) (a .pre)
 
 same-length : tie.Need-same-length
 same-length c = search needs
