@@ -1,14 +1,17 @@
 -- The window of a bridge's buses, by the distance from the base; the sums of an address fit.
 use Prim.Native.Nat.{ℕ, _+_, _-_, _/_, _%_, _^_, _≤_, _<_}
-use mathlib.Core.Path.{_≡_, refl}
+use mathlib.Core.Path.{_≡_, refl, sym, ap, subst}
+use mathlib.Core.Logic.{⊎-elim}
 use mathlib.Core.Bool.{Bool, true, false, not, _&&_, _||_}
 use native.Mathlib.Omega.{arith}
 use lib.Dec.{eqb, leb, ltb}
-use borrow.Author.Tests.{leb-true, leb-false, ltb-true, ltb-false, le-leb, lt-ltb, lt-leb}
+use lib.Bits.{bitAnd, and-mask}
+use lib.Pow.{pow-pos}
+use borrow.Author.Tests.{eqb-true, leb-true, leb-false, ltb-true, ltb-false, le-leb, lt-ltb, lt-leb}
 use Rattle.rules.specs.Mcfg.{busStart, busEnd}
 use Rattle.rules.specs.Place.{placeBad, busOutside, inWindow}
 use Rattle.rules.specs.declared.Bridge.{Bridge}
-use Rattle.rules.proofs.Tests.{and-true, and-is, or-false, same-test}
+use Rattle.rules.proofs.Tests.{and-true, and-is, or-true, or-false, same-test}
 use Rattle.rules.proofs.Reach.{place-fits}
 use Rattle.ecam.specs.Fits.{PlaceFits}
 
@@ -75,6 +78,30 @@ tests-left b bus device function offset width p q e =
       offsets = f .offset-fits;
       ends = e;
     }
+
+-- a multiple of 1, 2 or 4 by a mask
+module _ (offset width : ℕ) where
+  abbrev pub listed : Bool
+  listed = eqb width 1 || eqb width 2 || eqb width 4
+
+  powers : listed ≡ true → (k : ℕ) × (width ≡ 2 ^ k)
+  powers e =
+      ⊎-elim
+      (λ q. ⊎-elim (λ r. (0, eqb-true width 1 r)) (λ r. (1, eqb-true width 2 r)) (or-true (eqb width 1) (eqb width 2) q))
+      (λ q. (2, eqb-true width 4 q))
+      (or-true (eqb width 1 || eqb width 2) (eqb width 4) e)
+
+  pub some-width : listed ≡ true → 1 ≤ width
+  some-width e = let p = powers e in subst (λ (w : ℕ). 1 ≤ w) (sym (p .1)) (pow-pos (p .0))
+
+  pub by-mask : listed ≡ true → not (eqb (bitAnd offset (width - 1)) 0) ≡ not listed || not (eqb (offset % width) 0)
+  by-mask e = rw e (ap (λ (m : ℕ). not (eqb m 0)) masked)
+    where
+      masked : bitAnd offset (width - 1) ≡ offset % width
+      masked = let p = powers e in subst (λ (w : ℕ). bitAnd offset (w - 1) ≡ offset % w) (sym (p .1)) (and-mask offset (p .0))
+
+  pub other-width : listed ≡ false → true ≡ not listed || not (eqb (offset % width) 0)
+  other-width e = rw e
 
 -- refusal 5, its last two tests found together
 pub bad-place : (device function offset width : ℕ) (m : Bool)

@@ -1,11 +1,11 @@
 -- What an operation on one row gives, by its number; the first number of a list, test by test.
-use Prim.Native.Nat.{ℕ, zero, suc}
+use Prim.Native.Nat.{ℕ, zero, suc, _≤_, _<_}
 use mathlib.Core.Path.{_≡_, refl, sym, ap, ap₂, _∙_}
 use mathlib.Core.Bool.{Bool, true, false, not}
 use mathlib.Core.List.{List, [], _∷_, _++_}
 use mathlib.Core.Option.{Option, none, some}
 use native.Mathlib.Omega.{arith}
-use borrow.Author.Tests.{leb-false, eq-eqb, ne-eqb}
+use borrow.Author.Tests.{leb-false, le-leb, lt-leb, eq-eqb, ne-eqb}
 use Rattle.rules.specs.Refusals.{Refusal, _if_, firstOf}
 use Rattle.rules.specs.Tables.{withHolding}
 use Rattle.rules.specs.Place.{placeBad, busOutside, inWindow, ownWindow}
@@ -48,6 +48,17 @@ past ((j if false) ∷ l) m h k e z = past l m (h .1) k e z
 -- 1 and 2 stand first in every list
 abbrev pub firstTwo : (bridges : ℕ) → SessionNumber → BridgeNumber → Bridge → List Refusal
 firstTwo bridges s n b = (1 if absent bridges n) ∷ (2 if foreign s b) ∷ []
+
+-- the number where no other refusal is asked for
+module _ (bridges : ℕ) (s : SessionNumber) (n : BridgeNumber) (b : Bridge) where
+  pub no-bridge : bridges ≤ n .0 → 1 ≡ firstOf (firstTwo bridges s n b)
+  no-bridge h = given 1 (absent bridges n) ((2 if foreign s b) ∷ []) (le-leb _ _ h)
+
+  pub not-owner : n .0 < bridges → (b .owner .0 ≡ s .0 → ⊥) → 2 ≡ firstOf (firstTwo bridges s n b)
+  not-owner h o = given 2 (foreign s b) [] (ap not (ne-eqb _ _ o)) ∙ passed 1 (absent bridges n) ((2 if foreign s b) ∷ []) (lt-leb _ _ h)
+
+  pub owner : n .0 < bridges → b .owner .0 ≡ s .0 → 0 ≡ firstOf (firstTwo bridges s n b)
+  owner h o = passed 2 (foreign s b) [] (ap not (eq-eqb _ _ o)) ∙ passed 1 (absent bridges n) ((2 if foreign s b) ∷ []) (lt-leb _ _ h)
 
 -- ---- the outcome and the row by the number that was found
 

@@ -92,19 +92,35 @@ pub fn reset(bridges: usize, row: Bridge, s: SessionNumber, n: BridgeNumber) -> 
     RowDone { number, row: next }
 }
 
+// Each answer has its own return, with the tests of refusals 1 and 2: by the number the compiler computes all three answers and then picks one.
 pub fn report(bridges: usize, row: Bridge, s: SessionNumber, n: BridgeNumber) -> Reported
     ensures { λ r. ⌜ outcome (r .number) (reported (r .holding)) [] ≡ outcomeAt bridges s n row report ⌝ }
 {
-    let number = refusal(bridges, row, s, n);
-    let mut holding = Holding {
-        held: 0,
-        supported: 0,
-    };
-    if number == 0 {
-        holding.held = row.held;
-        holding.supported = row.supported;
+    if (n.0 as usize) < bridges {
+        if s.0 == row.owner.0 {
+            return Reported {
+                number: 0,
+                holding: Holding {
+                    held: row.held,
+                    supported: row.supported,
+                },
+            };
+        }
+        return Reported {
+            number: 2,
+            holding: Holding {
+                held: 0,
+                supported: 0,
+            },
+        };
     }
-    Reported { number, holding }
+    Reported {
+        number: 1,
+        holding: Holding {
+            held: 0,
+            supported: 0,
+        },
+    }
 }
 
 // Refusals 1, 2 and 3; the revision refuses nothing.

@@ -1,27 +1,31 @@
--- `rows::report` meets its contract: the number is `refusal`'s, and what is reported follows from it.
+-- `rows::report` meets its contract: the tests in their order give the first number, and what is reported follows from it.
+use mathlib.Core.List.{[]}
+use mathlib.Core.Path.{refl, sym}
+use native.Mathlib.Omega.{arith}
 use Rattle.rules.specs.Calls.{report, reported}
 use Rattle.rules.specs.Tables.{holding}
-use mathlib.Core.List.{[]}
-use mathlib.Core.Path.{refl}
-use Rattle.rows.proofs.ByNumber.{outcome-done, outcome-refused}
+use Rattle.rows.proofs.ByNumber.{no-bridge, not-owner, owner, outcome-done, outcome-refused}
 use borrow.Author.Needs.{needs}
 use Rattle.rows.proofs.report.Statement.{statement}
 use Rattle.rows.proofs.report.Tie as tie
 
-refusal-requires : tie.Need-refusal-requires
-refusal-requires c κs = search needs
+cast-if1 : tie.Need-cast-if1
+cast-if1 c = search needs
 
 returns : tie.Need-returns
 returns c =
-    let a = c .before .before in
-    let f = c .before .refusal in
-    outcome-done (a .args .row) report (f .result) _ (f .ensures) (reported (holding (a .args .row))) [] (c .if1 .taken) refl
+    let a = c .before .before .before .before .before .args in
+    outcome-done (a .row) report 0 _ (owner (a .bridges) (a .s) (a .n) (a .row) (c .before .before .before .if1 .taken) (sym (c .if2 .taken))) (reported (holding (a .row))) [] refl refl
 
 returns-2 : tie.Need-returns-2
 returns-2 c =
-    let a = c .before .before in
-    let f = c .before .refusal in
-    outcome-refused (a .args .row) report (f .result) _ (f .ensures) (c .if1 .left)
+    let a = c .before .before .before .before .before .args in
+    outcome-refused (a .row) report 2 _ (not-owner (a .bridges) (a .s) (a .n) (a .row) (c .before .before .before .if1 .taken) (λ e. c .if2 .left (sym e))) (λ e. omega arith)
+
+returns-3 : tie.Need-returns-3
+returns-3 c =
+    let a = c .before .before .args in
+    outcome-refused (a .row) report 1 _ (no-bridge (a .bridges) (a .s) (a .n) (a .row) (c .if1 .left)) (λ e. omega arith)
 
 pub report-spec : {M : Type 1} → statement M
-report-spec = tie.close (tie.spec refusal-requires returns returns-2)
+report-spec = tie.close (tie.spec cast-if1 returns returns-2 returns-3)
