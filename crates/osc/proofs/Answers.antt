@@ -4,12 +4,14 @@ use mathlib.Core.Path.{_≡_, refl, sym, ap, _∙_}
 use mathlib.Core.Bool.{Bool, true, false, cond, not}
 use mathlib.Core.List.{List, [], _++_}
 use native.Mathlib.Omega.{arith}
+use lib.Bits.{bitAnd, bitOr}
 use lib.ListN.{length, take, drop, replicate, drop-of-length-le, length-append, length-drop, length-replicate}
 use lib.Seq.{take-all, take-at, take-add, length-take-le}
 use Rattle.rules.specs.Numbers.{le32}
 use Rattle.rules.specs.Tables.{holding}
-use Rattle.rules.specs.Osc.{granted, grantStatus, recognised, errorStatus, query, support, control, oscAnswer, joined, oscAfter}
+use Rattle.rules.specs.Osc.{knownSupport, granted, grantStatus, recognised, errorStatus, query, support, control, oscAnswer, joined, oscAfter}
 use Rattle.rules.specs.declared.Bridge.{Bridge}
+use Rattle.osc.specs.Granted.{grantedAnswer}
 
 -- three DWORDs written one after the other fill twelve bytes
 pub three-written : (b : List ℕ) (x y z : ℕ) (b₁ b₂ b₃ : List ℕ) → length b ≡ 12
@@ -77,6 +79,20 @@ more-right a x n at a₁ f h l e i =
         take-add at 4 (errorBytes x n)
         ∙ ap (λ (y : List ℕ). take at (errorBytes x n) ++ y) (ap (take 4) (zeros-left x n at f) ∙ zero-dword (n - 4 - (at - 4)) (omega arith))
 
+-- what was read, found and written is the answer
+pub granted-written : (b : Bridge) (caps : List ℕ) (s r g st : ℕ) → s ≡ support caps → r ≡ control caps → g ≡ granted b s r → st ≡ grantStatus r g
+    → le32 st ++ le32 s ++ le32 g ≡ grantedAnswer b caps
+granted-written b caps s r g st p w q t = rw (t, q, p, w)
+
+-- the query flag decides what is added
+module _ (b : Bridge) (caps : List ℕ) (q : Bool) (e : q ≡ query caps) where
+  pub query-adds : q ≡ true → holding b ≡ cond (query caps) (holding b) (joined b caps)
+  query-adds t = rw (sym e, t)
+
+  pub taking-adds : (g s : ℕ) → q ≡ false → g ≡ granted b (support caps) (control caps) → s ≡ support caps
+      → record { held = bitOr (b .held) g; supported = bitOr (b .supported) (bitAnd s knownSupport) } ≡ cond (query caps) (holding b) (joined b caps)
+  taking-adds g s t p w = rw (sym e, t, p, w)
+
 module _ (b : Bridge) (revision count : ℕ) (uuid caps : List ℕ) where
   -- an error: its status, zeros, and nothing added
   pub error-answer : (status : ℕ) (a : List ℕ) → recognised revision count uuid ≡ false
@@ -90,10 +106,9 @@ module _ (b : Bridge) (revision count : ℕ) (uuid caps : List ℕ) where
   error-after r = rw r
 
   -- a recognised call: status, support and the granted bits, which join the held ones where it is no query
-  pub granted-answer : (s r g st : ℕ) → recognised revision count uuid ≡ true → s ≡ support caps → r ≡ control caps → g ≡ granted b s r → st ≡ grantStatus r g
-      → le32 st ++ le32 s ++ le32 g ≡ oscAnswer b revision count uuid caps
+  pub granted-answer : recognised revision count uuid ≡ true → grantedAnswer b caps ≡ oscAnswer b revision count uuid caps
   unfolding oscAnswer
-  granted-answer s r g st e p w q t = rw (e, t, q, p, w)
+  granted-answer e = rw e
 
   pub granted-after : recognised revision count uuid ≡ true → cond (query caps) (holding b) (joined b caps) ≡ oscAfter b revision count uuid caps
   unfolding oscAfter

@@ -8,6 +8,7 @@ ghost use mathlib.Core.Bool.{false, cond};
 ghost use mathlib.Core.List.{_++_};
 ghost use Prim.Native.Nat.{_-_, _%_, _≤_};
 ghost use lib.ListN.{length, replicate};
+ghost use Rattle.osc.specs.Granted.{grantedAnswer};
 ghost use Rattle.osc.specs.Needs.{needsMet};
 ghost use Rattle.rules.specs.Numbers.{le32, sameBytes};
 ghost use Rattle.rules.specs.Tables.{holding};
@@ -138,20 +139,34 @@ fn write_granted(answer: &mut [u8], status: u32, support: u32, control: u32)
     words::write32(answer, 8, control);
 }
 
-// What the bridge holds after a recognised call: a query adds nothing.
-fn added(b: Bridge, caps: &[u8], support: u32, granted: u32) -> Holding
-    requires { ⌜ (4 ≤ length (now caps)) × (support ≡ supportOf (now caps)) × (granted ≡ grantedOf b support (control (now caps))) ⌝ }
-    ensures { λ r. ⌜ r ≡ cond (query (now (caps .entry))) (holding b) (joined b (now (caps .entry))) ⌝ }
+// The answer to a recognised call is written; the granted bits are handed back.
+fn answer_granted(b: Bridge, caps: &[u8], answer: &mut [u8]) -> u32
+    requires { ⌜ (length (now caps) ≡ 12) × (length (now answer) ≡ 12) ⌝ }
+    ensures { λ r. ⌜ (r ≡ grantedOf b (supportOf (now (caps .entry))) (control (now (caps .entry)))) × (now (answer .exit) ≡ grantedAnswer b (now (caps .entry))) ⌝ }
+{
+    let support = words::read32(caps, 4);
+    let requested = words::read32(caps, 8);
+    let granted = granted_bits(b, support, requested);
+    write_granted(answer, grant_status(requested, granted), support, granted);
+    granted
+}
+
+// A recognised call. A query, which adds nothing, is answered apart, so that the compiler branches on the flag.
+fn grant(b: Bridge, caps: &[u8], answer: &mut [u8]) -> Holding
+    requires { ⌜ (length (now caps) ≡ 12) × (length (now answer) ≡ 12) ⌝ }
+    ensures { λ r. ⌜ (now (answer .exit) ≡ grantedAnswer b (now (caps .entry))) × (r ≡ cond (query (now (caps .entry))) (holding b) (joined b (now (caps .entry)))) ⌝ }
 {
     if is_query(caps) {
+        answer_granted(b, caps, answer);
         return Holding {
             held: b.held,
             supported: b.supported,
         };
     }
+    let granted = answer_granted(b, caps, answer);
     Holding {
         held: b.held | granted,
-        supported: b.supported | (support & KNOWN_SUPPORT),
+        supported: b.supported | (words::read32(caps, 4) & KNOWN_SUPPORT),
     }
 }
 
@@ -176,9 +191,5 @@ pub fn respond(
             supported: b.supported,
         };
     }
-    let support = words::read32(caps, 4);
-    let requested = words::read32(caps, 8);
-    let granted = granted_bits(b, support, requested);
-    write_granted(answer, grant_status(requested, granted), support, granted);
-    added(b, caps, support, granted)
+    grant(b, caps, answer)
 }

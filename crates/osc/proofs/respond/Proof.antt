@@ -1,9 +1,8 @@
 -- `osc::respond` meets its contract: an error status gives the error's answer, none the granted one; the framing gives the lengths.
 use denote.Ref.{now}
-use native.Mathlib.Omega.{arith}
-use mathlib.Core.Path.{_≡_, _∙_, ap}
+use mathlib.Core.Path.{_≡_, _∙_}
 use mathlib.Core.Bool.{true}
-use Rattle.rules.specs.Osc.{granted as grantedOf, recognised}
+use Rattle.rules.specs.Osc.{recognised}
 use Rattle.osc.proofs.Framing.{ThreeDwords, framed, no-error, an-error, three-dwords, some-to-8}
 use Rattle.osc.proofs.Answers.{error-answer, error-after, granted-answer, granted-after}
 use borrow.Author.Needs.{needs}
@@ -45,39 +44,19 @@ returns c =
       error-after (a .args .b) (a .args .revision) (a .args .count) (now (a .args .uuid)) (now (a .args .caps)) r,
     )
 
-read32-requires : tie.Need-read32-requires
-read32-requires c κs = omega (arith, long c .capabilities-are)
-
-read32-requires-2 : tie.Need-read32-requires-2
-read32-requires-2 c κs = omega (arith, long (c .before) .capabilities-are)
-
-granted-bits-requires : tie.Need-granted-bits-requires
-granted-bits-requires c κs = search needs
-
-grant-status-requires : tie.Need-grant-status-requires
-grant-status-requires c κs = search needs
-
-write-granted-requires : tie.Need-write-granted-requires
-write-granted-requires c κs = long (c .before .before .before .before .before) .answer-is
-
-added-requires : tie.Need-added-requires
-added-requires c κs = (
-  omega (arith, long (c .before .before .before .before .before .before .before .before) .capabilities-are),
-  c .before .before .before .before .before .before .before .read32 .ensures,
-  c .before .before .before .before .before .granted-bits .ensures ∙ ap (grantedOf (c .before .before .before .before .before .before .before .before .before .before .before .before .before .args .b) (c .before .before .before .before .before .before .before .read32 .result)) (c .before .before .before .before .before .before .read322 .ensures),
-)
+grant-requires : tie.Need-grant-requires
+grant-requires c κs = (long (c .before) .capabilities-are, long (c .before) .answer-is)
 
 same-length-2 : tie.Need-same-length-2
 same-length-2 c = search needs
 
 returns-2 : tie.Need-returns-2
 returns-2 c =
-    let a = c .before .before .before .before .before .before .before .before .before .before .before .before .before .before .args in
-    let r = right (c .before .before .before .before .before .before .before .before .before) in (
-      c .before .before .before .write-granted .ensures
-          ∙ granted-answer (a .b) (a .revision) (a .count) (now (a .uuid)) (now (a .caps)) (c .before .before .before .before .before .before .before .before .read32 .result) (c .before .before .before .before .before .before .before .read322 .result) (c .before .before .before .before .before .before .granted-bits .result) (c .before .before .before .before .grant-status .result) r
-          (c .before .before .before .before .before .before .before .before .read32 .ensures) (c .before .before .before .before .before .before .before .read322 .ensures) (c .before .before .before .before .before .before .granted-bits .ensures) (c .before .before .before .before .grant-status .ensures),
-      c .added .ensures ∙ granted-after (a .b) (a .revision) (a .count) (now (a .uuid)) (now (a .caps)) r,
+    let a = c .before .before .before .before .before .before .before .before .before .args in
+    let r = right (c .before .before .before .before) in
+    let g = c .before .before .grant in (
+      g .ensures .0 ∙ granted-answer (a .b) (a .revision) (a .count) (now (a .uuid)) (now (a .caps)) r,
+      g .ensures .1 ∙ granted-after (a .b) (a .revision) (a .count) (now (a .uuid)) (now (a .caps)) r,
     )
 
 pub respond-spec : {M : Type 1} → statement M
@@ -88,11 +67,6 @@ respond-spec =
     write-error-requires
     same-length
     returns
-    read32-requires
-    read32-requires-2
-    granted-bits-requires
-    grant-status-requires
-    write-granted-requires
-    added-requires
+    grant-requires
     same-length-2
     returns-2)

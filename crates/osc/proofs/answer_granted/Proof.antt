@@ -1,0 +1,49 @@
+-- `osc::answer_granted` meets its contract: what was read is the call's support and control.
+use denote.Ref.{now}
+use mathlib.Core.Path.{_∙_, ap₂}
+use Rattle.rules.specs.Osc.{granted}
+use Rattle.osc.proofs.Answers.{granted-written}
+use borrow.Author.Needs.{needs}
+use Rattle.osc.proofs.answer_granted.Statement.{statement}
+use Rattle.osc.proofs.answer_granted.Tie as tie
+
+read32-requires : tie.Need-read32-requires
+read32-requires c κs = search needs
+
+read32-requires-2 : tie.Need-read32-requires-2
+read32-requires-2 c κs = search needs
+
+granted-bits-requires : tie.Need-granted-bits-requires
+granted-bits-requires c κs = search needs
+
+grant-status-requires : tie.Need-grant-status-requires
+grant-status-requires c κs = search needs
+
+write-granted-requires : tie.Need-write-granted-requires
+write-granted-requires c κs = search needs
+
+same-length : tie.Need-same-length
+same-length c = search needs
+
+returns : tie.Need-returns
+returns c =
+    let a = c .before .before .before .before .before .before .before .before .before .before .args in
+    let s = c .before .before .before .before .before .before .before .read32 in
+    let r = c .before .before .before .before .before .before .read322 in
+    let g = c .before .before .before .before .before .granted-bits in
+    let t = c .before .before .before .grant-status in (
+      g .ensures ∙ ap₂ (granted (a .b)) (s .ensures) (r .ensures),
+      c .before .before .write-granted .ensures ∙ granted-written (a .b) (now (a .caps)) (s .result) (r .result) (g .result) (t .result) (s .ensures) (r .ensures) (g .ensures) (t .ensures),
+    )
+
+pub answer-granted-spec : {M : Type 1} → statement M
+answer-granted-spec =
+    tie.close
+    (tie.spec
+    read32-requires
+    read32-requires-2
+    granted-bits-requires
+    grant-status-requires
+    write-granted-requires
+    same-length
+    returns)
