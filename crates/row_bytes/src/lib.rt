@@ -151,7 +151,8 @@ pub fn start_bytes(mcfg: &[u8], bytes: &[u8]) -> Started
         i = following(number, i, n);
     }
     if number != first {
-        bridges = start::no_places();
+        let none = start::no_bridge();
+        bridges = [none; rules::MAX_ROWS];
     }
     let table = Table {
         bridges,

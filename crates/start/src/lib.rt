@@ -64,7 +64,7 @@ pub struct Admitted {
 }
 
 // The bridge of no row.
-fn no_bridge() -> Bridge
+pub fn no_bridge() -> Bridge
     ensures { λ r. ⌜ r ≡ noBridge ⌝ }
 {
     let owner = SessionNumber(0);

@@ -1,17 +1,19 @@
 -- `row_bytes::start_bytes` meets its contract: the invariant is Judging's `Walked`. The measure is the rows left.
 use Prim.Native.Nat.{ℕ, _-_, _<_}
-use mathlib.Core.Path.{_≡_, sym, _∙_}
+use mathlib.Core.Path.{_≡_, sym, ap, _∙_}
 use mathlib.Core.Bool.{cond}
-use mathlib.Core.List.{List}
+use mathlib.Core.List.{List, []}
 use mathlib.Core.Logic.{⊎-elim}
 use native.Mathlib.Omega.{arith}
 use denote.Ref.{now}
 use lib.ListN.{take, getD}
 use borrow.Author.Needs.{needs}
 use Rattle.rules.specs.Limits.{maxRows}
+use Rattle.rules.specs.Lists.{padded}
 use Rattle.rules.specs.Mcfg.{entries}
 use Rattle.rules.specs.Tables.{noBridge}
 use Rattle.rules.specs.Start.{bridgeOf}
+use Rattle.rules.specs.declared.Bridge.{Bridge}
 use Rattle.start.specs.Admission.{noRow}
 use Rattle.start.proofs.Admission.{admissible}
 use Rattle.row_bytes.specs.RowBytes.{rowCount, rowsOf}
@@ -114,13 +116,14 @@ loop-again c =
     (walked-more (m t) (b t) (first t) (n t) (f .before .first-number .ensures) (f .rows-to-judge .ensures) (t .before .loop .number) (i t) (t .before .loop .bridges) (t .before .loop .inv)
     (t .loop-test .taken) (d .admit .result .number) (d .admit .result .bridge) (judged d .0) (judged d .1))
 
-no-places-requires-2 : tie.Need-no-places-requires-2 Inv-loop μ-loop
-no-places-requires-2 c κs = search needs
+no-bridge-requires : tie.Need-no-bridge-requires Inv-loop μ-loop
+no-bridge-requires c κs = search needs
 
 bridges-placed-requires : tie.Need-bridges-placed-requires Inv-loop μ-loop
 bridges-placed-requires c κs = search needs
 
 returns : tie.Need-returns Inv-loop μ-loop
+unfolding maxRows
 returns c =
     let j = c .before in
     let l = j .before .before in
@@ -128,7 +131,7 @@ returns c =
     let a = r .before .before .before .before .before .args in
     ⊎-elim
     (λ w. walked-refused (now (a .mcfg)) (now (a .bytes)) (r .before .first-number .result) (r .rows-to-judge .result) (r .before .first-number .ensures) (r .rows-to-judge .ensures)
-    (l .loop .number) (l .loop .i) (l .loop .bridges) (l .loop .inv) (j .before .loop-test .left) (j .if1 .bridges) (c .bridges-placed .result) (c .bridges-placed .ensures) (w .0 .taken) (w .2 ∙ w .1 .ensures))
+    (l .loop .number) (l .loop .i) (l .loop .bridges) (l .loop .inv) (j .before .loop-test .left) (j .if1 .bridges) (c .bridges-placed .result) (c .bridges-placed .ensures) (w .0 .taken) (w .2 ∙ ap (λ (x : Bridge). padded x maxRows []) (w .1 .ensures)))
     (λ w. walked-all (now (a .mcfg)) (now (a .bytes)) (r .before .first-number .result) (r .rows-to-judge .result) (r .before .first-number .ensures) (r .rows-to-judge .ensures)
     (l .loop .number) (l .loop .i) (l .loop .bridges) (l .loop .inv) (j .before .loop-test .left) (j .if1 .bridges) (c .bridges-placed .result) (c .bridges-placed .ensures) (w .0 .left) (w .1))
     (j .if1 .came)
@@ -151,6 +154,6 @@ start-bytes-spec =
     following-requires
     loop-less
     loop-again
-    no-places-requires-2
+    no-bridge-requires
     bridges-placed-requires
     returns)
