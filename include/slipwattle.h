@@ -20,6 +20,7 @@
  *  - A table comes only from slipwattle_start, and only these calls change it. It may be copied; its fields are not for the caller.
  *  - A pointer with a length leads to that many bytes (or numbers). Where the length is 0 the pointer may be NULL.
  *  - What a call may change (the table, the answer buffer) overlaps nothing else that is lent to it, and no other thread uses it meanwhile.
+ *    A call of which it is said below that the table stays as it is stores nothing into it: several threads may make such calls at once.
  */
 #ifndef SLIPWATTLE_H
 #define SLIPWATTLE_H

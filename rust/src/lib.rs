@@ -7,7 +7,7 @@
 //!
 //! The calls are written in Rattle and proved against their definitions; this crate lends them its buffers, so that what the C
 //! header asks of its caller holds by type. It has no dependency, needs no allocator and no `std`; of the platform the library
-//! takes `memcpy` and `memset` alone. The build needs the Rattle toolchain, which proves the library first.
+//! takes `memcpy` alone. The build needs the Rattle toolchain, which proves the library first.
 //!
 //! # Example
 //!

@@ -128,67 +128,95 @@ struct Request {
     dwords: Vec<u32>,
 }
 
+impl Request {
+    fn capabilities(&self) -> Vec<u8> {
+        self.dwords.iter().flat_map(|d| d.to_le_bytes()).collect()
+    }
+}
+
+/// The owner's taking call for these control bits.
+fn taking(control: u32) -> Request {
+    Request {
+        session: BRIDGE,
+        revision: 1,
+        uuid: UUID,
+        dwords: vec![0, 0x1f, control],
+    }
+}
+
+/// The library's _OSC call.
+fn our_osc(table: &mut sys::Table, q: &Request, capabilities: &[u8], answer: &mut [u8]) -> u8 {
+    // SAFETY: a started table, pointers and lengths of slices that do not overlap.
+    unsafe {
+        sys::slipwattle_osc(
+            table,
+            session(q.session).0,
+            bridge(BRIDGE).0,
+            q.revision,
+            q.dwords.len() as u32,
+            q.uuid.as_ptr(),
+            q.uuid.len(),
+            capabilities.as_ptr(),
+            capabilities.len(),
+            answer.as_mut_ptr(),
+            answer.len(),
+        )
+    }
+}
+
+/// The reference's.
+fn their_osc(
+    table: &mut reference::Table,
+    q: &Request,
+    capabilities: &[u8],
+    answer: &mut [u8],
+) -> Result<(), reference::Refusal> {
+    let (s, n, count) = (
+        session(q.session).1,
+        bridge(BRIDGE).1,
+        q.dwords.len() as u32,
+    );
+    table.osc(s, n, q.revision, count, &q.uuid, capabilities, answer)
+}
+
 fn osc(name: &'static str, q: &Request) -> Figure {
     let mut t = tables();
-    let (s, n) = (session(q.session), bridge(BRIDGE));
-    let caps: Vec<u8> = q.dwords.iter().flat_map(|d| d.to_le_bytes()).collect();
-    let count = q.dwords.len() as u32;
-    let (mut a, mut b) = (vec![0u8; caps.len()], vec![0u8; caps.len()]);
-    let (revision, uuid) = (q.revision, &q.uuid);
+    let capabilities = q.capabilities();
+    let mut answers = [vec![0; capabilities.len()], vec![0; capabilities.len()]];
+    let [a, b] = &mut answers;
     timed(
         name,
-        // SAFETY: a started table, pointers and lengths of slices that do not overlap.
-        || unsafe {
-            let (caps, a) = ((caps.as_ptr(), caps.len()), (a.as_mut_ptr(), a.len()));
-            sys::slipwattle_osc(
-                &mut t.ours,
-                s.0,
-                n.0,
-                revision,
-                count,
-                uuid.as_ptr(),
-                uuid.len(),
-                caps.0,
-                caps.1,
-                a.0,
-                a.1,
-            )
-        },
-        || t.theirs.osc(s.1, n.1, revision, count, uuid, &caps, &mut b),
+        || our_osc(&mut t.ours, q, &capabilities, a),
+        || their_osc(&mut t.theirs, q, &capabilities, b),
     )
 }
 
 fn oscs() -> Vec<Figure> {
-    let request = |session, revision, uuid, dwords: &[u32]| Request {
-        session,
-        revision,
-        uuid,
-        dwords: dwords.to_vec(),
-    };
     let mut unknown = UUID;
     unknown[15] ^= 1;
+    let query = Request {
+        dwords: vec![1, 0x1f, 0x1f],
+        ..taking(0)
+    };
+    let unknown = Request {
+        uuid: unknown,
+        ..taking(0x1f)
+    };
+    let eight = Request {
+        dwords: vec![0; 8],
+        ..taking(0)
+    };
+    let foreign = Request {
+        session: BRIDGE + 1,
+        ..taking(0x1f)
+    };
     vec![
-        osc("_OSC, query", &request(BRIDGE, 1, UUID, &[1, 0x1f, 0x1f])),
-        osc(
-            "_OSC, taking call",
-            &request(BRIDGE, 1, UUID, &[0, 0x1f, 0x1f]),
-        ),
-        osc(
-            "_OSC, taking call, some bits masked",
-            &request(BRIDGE, 1, UUID, &[0, 0x1f, 0x3f]),
-        ),
-        osc(
-            "_OSC, unknown UUID: status 0x04",
-            &request(BRIDGE, 1, unknown, &[0, 0x1f, 0x1f]),
-        ),
-        osc(
-            "_OSC, Count 8: status 0x02",
-            &request(BRIDGE, 1, UUID, &[0; 8]),
-        ),
-        osc(
-            "_OSC, not the owner: refusal 2",
-            &request(BRIDGE + 1, 1, UUID, &[0, 0x1f, 0x1f]),
-        ),
+        osc("_OSC, query", &query),
+        osc("_OSC, taking call", &taking(0x1f)),
+        osc("_OSC, taking call, some bits masked", &taking(0x3f)),
+        osc("_OSC, unknown UUID: status 0x04", &unknown),
+        osc("_OSC, Count 8: status 0x02", &eight),
+        osc("_OSC, not the owner: refusal 2", &foreign),
     ]
 }
 
@@ -314,35 +342,20 @@ fn records() -> Vec<Figure> {
     ]
 }
 
-fn register_values(name: &'static str, control: u32, slot: &[u8]) -> Figure {
+/// The same table on both sides, on whose bridge these control bits are held.
+fn tables_that_hold(control: u32) -> Tables {
     let mut t = tables();
+    let (q, mut answer) = (taking(control), [0; 12]);
+    let capabilities = q.capabilities();
+    let ours = our_osc(&mut t.ours, &q, &capabilities, &mut answer);
+    let theirs = their_osc(&mut t.theirs, &q, &capabilities, &mut answer);
+    assert_eq!((ours, theirs), (0, Ok(())));
+    t
+}
+
+fn register_values(name: &'static str, control: u32, slot: &[u8]) -> Figure {
+    let mut t = tables_that_hold(control);
     let (s, n) = (session(BRIDGE), bridge(BRIDGE));
-    let caps: Vec<u8> = [0, 0x1f, control]
-        .iter()
-        .flat_map(|d: &u32| d.to_le_bytes())
-        .collect();
-    let mut answer = vec![0; 12];
-    // SAFETY: a started table, pointers and lengths of slices that do not overlap.
-    let taken = unsafe {
-        sys::slipwattle_osc(
-            &mut t.ours,
-            s.0,
-            n.0,
-            1,
-            3,
-            UUID.as_ptr(),
-            16,
-            caps.as_ptr(),
-            12,
-            answer.as_mut_ptr(),
-            12,
-        )
-    };
-    assert_eq!(taken, 0);
-    assert_eq!(
-        t.theirs.osc(s.1, n.1, 1, 3, &UUID, &caps, &mut answer),
-        Ok(())
-    );
     let current: [u32; 8] = [0x2110, 1, 2, 3, 0x2110, 5, 6, 7];
     let block: &[u8] = &[];
     timed(
@@ -358,7 +371,7 @@ fn register_values(name: &'static str, control: u32, slot: &[u8]) -> Figure {
                 block.as_ptr(),
                 block.len(),
                 current.as_ptr(),
-                8,
+                current.len(),
             )
         },
         || t.theirs.register_values(s.1, n.1, slot, block, &current),

@@ -49,7 +49,7 @@ fn calls_in_a_turn<A>(call: &mut impl FnMut() -> A) -> u32 {
 /// Runs `inner` deeper in the stack, by a frame for each step: what lies where in a cache line then differs.
 #[inline(never)]
 fn deeper<R>(steps: usize, inner: &mut dyn FnMut() -> R) -> R {
-    let frame = black_box([steps as u8; 24]);
+    let frame = black_box([steps as u8; 72]);
     let result = match steps {
         0 => inner(),
         _ => deeper(steps - 1, inner),
