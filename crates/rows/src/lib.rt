@@ -84,12 +84,16 @@ pub fn reset(bridges: usize, row: Bridge, s: SessionNumber, n: BridgeNumber) -> 
     ensures { λ r. ⌜ (outcome (r .number) nothing [] ≡ outcomeAt bridges s n row reset) × (r .row ≡ rowAfter bridges s n row reset) ⌝ }
 {
     let number = refusal(bridges, row, s, n);
-    let mut next = row;
-    if number == 0 {
-        next.held = 0;
-        next.supported = 0;
+    if number != 0 {
+        return RowDone { number, row };
     }
-    RowDone { number, row: next }
+    let mut next = row;
+    next.held = 0;
+    next.supported = 0;
+    RowDone {
+        number: 0,
+        row: next,
+    }
 }
 
 // Each answer has its own return, with the tests of refusals 1 and 2: by the number the compiler computes all three answers and then picks one.
