@@ -6,11 +6,11 @@ use std::time::{Duration, Instant};
 /// Repeats of each comparison; the spread is over these.
 pub const REPEATS: usize = 9;
 
-/// Turns that the two sides take in one repeat; each side's quickest counts.
-pub const TURNS: usize = 5;
+/// Turns that the two sides take in one repeat; each side's quickest counts. They are short, so that some of them meet no other work.
+pub const TURNS: usize = 80;
 
-/// How long one side's turn takes.
-const TURN: Duration = Duration::from_millis(4);
+/// How long one side's turn takes at least.
+const TURN: Duration = Duration::from_micros(250);
 
 /// Nanoseconds a call on each side, and their ratios.
 pub struct Figure {
