@@ -3,9 +3,10 @@ use rules::Field;
 use rules::Found;
 use rules::constants::MAX_BLOCK;
 ghost use mathlib.Core.Path.{_≡_};
+ghost use mathlib.Core.Bool.{_&&_};
 ghost use mathlib.Core.List.{[]};
 ghost use Prim.Native.Nat.{_+_, _^_, _<_, _≤_};
-ghost use lib.Dec.{ltb};
+ghost use lib.Dec.{eqb, ltb};
 ghost use lib.ListN.{length};
 ghost use Rattle.rules.specs.Limits.{maxBlock};
 ghost use Rattle.rules.specs.Records.{isRecord, recordSize, valuesSound, fieldSound, findRecord};
@@ -68,27 +69,31 @@ fn values_sound_2(b: &[u8], f: Field) -> bool
         & (words::read32(b, 51 + f.start) <= 65535)
 }
 
-// The values of a revision 1 record, by its type.
-fn values_sound(b: &[u8], f: Field) -> bool
-    requires { ⌜ (f .size ≡ recordSize (f .tag)) × (3 + f .size + f .start ≤ length (now b)) ⌝ }
-    ensures { λ r. ⌜ r ≡ valuesSound (now (b .entry)) f (f .tag) ⌝ }
+// The length and the values of a revision 1 record, by its type.
+fn record_sound(b: &[u8], f: Field) -> bool
+    requires { ⌜ 3 + f .size + f .start ≤ length (now b) ⌝ }
+    ensures { λ r. ⌜ r ≡ (eqb (f .size) (recordSize (f .tag)) && valuesSound (now (b .entry)) f (f .tag)) ⌝ }
 {
     let tag = f.tag;
     match tag {
-        0 => values_sound_0(b, f),
-        1 => values_sound_1(b, f),
-        _ => values_sound_2(b, f),
-    }
-}
-
-// The length of a revision 1 record, by its type.
-fn record_size(tag: u8) -> usize
-    ensures { λ r. ⌜ r ≡ recordSize tag ⌝ }
-{
-    match tag {
-        0 => 20,
-        1 => 16,
-        _ => 68,
+        0 => {
+            if f.size != 20 {
+                return false;
+            }
+            values_sound_0(b, f)
+        }
+        1 => {
+            if f.size != 16 {
+                return false;
+            }
+            values_sound_1(b, f)
+        }
+        _ => {
+            if f.size != 68 {
+                return false;
+            }
+            values_sound_2(b, f)
+        }
     }
 }
 
@@ -115,10 +120,7 @@ fn judge(b: &[u8], f: Field) -> Judged
     if words::read32(b, 3 + f.start) != 1 {
         return Judged::Skip;
     }
-    if f.size != record_size(f.tag) {
-        return Judged::Bad;
-    }
-    if values_sound(b, f) {
+    if record_sound(b, f) {
         return Judged::Record;
     }
     Judged::Bad

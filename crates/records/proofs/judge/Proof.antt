@@ -34,31 +34,12 @@ returns-4 c =
       ne-eqb _ 1 (c .if4 .taken),
     )
 
-record-size-requires : tie.Need-record-size-requires
-record-size-requires c κs = search needs
+record-sound-requires : tie.Need-record-sound-requires
+record-sound-requires c κs = search needs
 
 returns-5 : tie.Need-returns-5
 returns-5 c =
-    let e4 = c .before .before .before in
-    let e3 = e4 .before .before .before in
-    let e2 = e3 .before .before in
-    simp (
-      le-ltb 2 _ (e2 .before .before .if1 .left),
-      le-leb 4 _ (e2 .if2 .left),
-      eq-eqb _ 0 (e3 .if3 .left),
-      ← e4 .before .read32 .ensures,
-      eq-eqb _ 1 (e4 .if4 .left),
-      ← c .before .before .record-size .ensures,
-      ne-eqb _ _ (c .if5 .taken),
-    )
-
-values-sound-requires : tie.Need-values-sound-requires
-values-sound-requires c κs = search needs
-
-returns-6 : tie.Need-returns-6
-returns-6 c =
-    let e5 = c .before .before in
-    let e4 = e5 .before .before .before in
+    let e4 = c .before .before in
     let e3 = e4 .before .before .before in
     let e2 = e3 .before .before in
     simp (
@@ -68,16 +49,13 @@ returns-6 c =
       eq-eqb _ 0 (e3 .if3 .left),
       ← e4 .before .read32 .ensures,
       eq-eqb _ 1 (e4 .if4 .left),
-      ← e5 .before .before .record-size .ensures,
-      eq-eqb _ _ (e5 .if5 .left),
-      ← c .before .values-sound .ensures,
-      c .if6 .taken,
+      ← c .before .record-sound .ensures,
+      c .if5 .taken,
     )
 
-returns-7 : tie.Need-returns-7
-returns-7 c =
-    let e5 = c .before .before in
-    let e4 = e5 .before .before .before in
+returns-6 : tie.Need-returns-6
+returns-6 c =
+    let e4 = c .before .before in
     let e3 = e4 .before .before .before in
     let e2 = e3 .before .before in
     simp (
@@ -86,10 +64,8 @@ returns-7 c =
       eq-eqb _ 0 (e3 .if3 .left),
       ← e4 .before .read32 .ensures,
       eq-eqb _ 1 (e4 .if4 .left),
-      ← e5 .before .before .record-size .ensures,
-      eq-eqb _ _ (e5 .if5 .left),
-      ← c .before .values-sound .ensures,
-      c .if6 .left,
+      ← c .before .record-sound .ensures,
+      c .if5 .left,
     )
 
 pub judge-spec : {M : Type 1} → statement M
@@ -102,8 +78,6 @@ judge-spec =
     add-read32
     read32-requires
     returns-4
-    record-size-requires
+    record-sound-requires
     returns-5
-    values-sound-requires
-    returns-6
-    returns-7)
+    returns-6)
