@@ -6,7 +6,7 @@ use rules::Table;
 use start::Started;
 ghost use mathlib.Core.Path.{_≡_};
 ghost use mathlib.Core.Bool.{cond, _&&_};
-ghost use Prim.Native.Nat.{_+_, _*_, _≤_, _<_};
+ghost use Prim.Native.Nat.{_+_, _*_, _≤_};
 ghost use lib.Dec.{eqb, leb};
 ghost use lib.ListN.{length, take};
 ghost use Rattle.rules.specs.Limits.{maxRows};
@@ -101,35 +101,14 @@ fn first_number(mcfg: &[u8], bytes: &[u8]) -> u8
     0
 }
 
-// How many rows are judged: none of a list that is refused already.
-fn rows_to_judge(first: u8, bytes: &[u8]) -> usize
-    ensures { λ r. ⌜ r ≡ cond (eqb first 0) (rowCount (now (bytes .entry))) 0 ⌝ }
-{
-    if first == 0 {
-        return bytes.len() / ROW_BYTES;
-    }
-    0
-}
-
-// The row after row `i`; none where row `i` is refused.
-fn following(number: u8, i: usize, n: usize) -> usize
-    requires { ⌜ i < n ⌝ }
-    ensures { λ r. ⌜ r ≡ cond (eqb number 0) (i + 1) n ⌝ }
+// One count where nothing is refused so far, another where something is.
+fn if_done(number: u8, done: usize, refused: usize) -> usize
+    ensures { λ r. ⌜ r ≡ cond (eqb number 0) done refused ⌝ }
 {
     if number == 0 {
-        return i + 1;
+        return done;
     }
-    n
-}
-
-// How many bridges the table has: none where a row is refused.
-fn bridges_placed(number: u8, n: usize) -> usize
-    ensures { λ r. ⌜ r ≡ cond (eqb number 0) n 0 ⌝ }
-{
-    if number == 0 {
-        return n;
-    }
-    0
+    refused
 }
 
 // The table of the rows, each read where it stands, or a refusal and no bridges. There is one return, so that the places are copied once; they are cleared first, well before that.
@@ -139,7 +118,7 @@ pub fn start_bytes(mcfg: &[u8], bytes: &[u8]) -> Started
 {
     let mut bridges = start::no_places();
     let first = first_number(mcfg, bytes);
-    let n = rows_to_judge(first, bytes);
+    let n = if_done(first, bytes.len() / ROW_BYTES, 0);
     let mut number = first;
     let mut i = 0;
     while i < n {
@@ -148,7 +127,7 @@ pub fn start_bytes(mcfg: &[u8], bytes: &[u8]) -> Started
         let bridge = a.bridge;
         bridges[i] = bridge;
         number = a.number;
-        i = following(number, i, n);
+        i = if_done(number, i + 1, n);
     }
     if number != first {
         let none = start::no_bridge();
@@ -156,7 +135,7 @@ pub fn start_bytes(mcfg: &[u8], bytes: &[u8]) -> Started
     }
     let table = Table {
         bridges,
-        count: bridges_placed(number, n),
+        count: if_done(number, n, 0),
     };
     Started { table, number }
 }

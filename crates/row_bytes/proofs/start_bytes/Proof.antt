@@ -44,16 +44,16 @@ module _ (c : tie.In-loop Inv-loop μ-loop) where
   first = c .before .before .before .first-number .result
 
   abbrev n : ℕ
-  n = c .before .before .rows-to-judge .result
+  n = c .before .before .if-done .result
 
   there : i < rowCount b
   there =
-      row-left m b first n (c .before .before .before .first-number .ensures) (c .before .before .rows-to-judge .ensures) (c .before .loop .number) i
+      row-left m b first n (c .before .before .before .first-number .ensures) (c .before .before .if-done .ensures) (c .before .loop .number) i
       (c .before .loop .bridges) (c .before .loop .inv) (c .loop-test .taken)
 
   placed : i < maxRows
   placed =
-      room m b first n (c .before .before .before .first-number .ensures) (c .before .before .rows-to-judge .ensures) (c .before .loop .number) i
+      room m b first n (c .before .before .before .first-number .ensures) (c .before .before .if-done .ensures) (c .before .loop .number) i
       (c .before .loop .bridges) (c .before .loop .inv) (c .loop-test .taken)
 
 -- it is judged: its number and its bridge are as start's walk takes them
@@ -72,15 +72,15 @@ no-places-requires c κs = search needs
 first-number-requires : tie.Need-first-number-requires Inv-loop μ-loop
 first-number-requires c κs = search needs
 
-rows-to-judge-requires : tie.Need-rows-to-judge-requires Inv-loop μ-loop
-rows-to-judge-requires c κs = search needs
+if-done-requires : tie.Need-if-done-requires Inv-loop μ-loop
+if-done-requires c κs = search needs
 
 loop-holds : tie.Need-loop-holds Inv-loop μ-loop
 loop-holds c =
     let f = c .before in
     let a = f .before .before .before .before .args in
     rw (f .before .no-places .ensures)
-    (walked-none (now (a .mcfg)) (now (a .bytes)) (f .first-number .result) (c .rows-to-judge .result) (f .first-number .ensures) (c .rows-to-judge .ensures))
+    (walked-none (now (a .mcfg)) (now (a .bytes)) (f .first-number .result) (c .if-done .result) (f .first-number .ensures) (c .if-done .ensures))
 
 row-at-requires : tie.Need-row-at-requires Inv-loop μ-loop
 row-at-requires c κs = omega (arith, there c)
@@ -99,28 +99,32 @@ array-set-from-bridges : tie.Need-array-set-from-bridges Inv-loop μ-loop
 unfolding maxRows
 array-set-from-bridges c = placed (c .before .before .before .before)
 
-following-requires : tie.Need-following-requires Inv-loop μ-loop
-following-requires c κs = c .before .before .before .before .loop-test .taken
+add-if-done : tie.Need-add-if-done Inv-loop μ-loop
+unfolding maxRows
+add-if-done c = omega (arith, placed (c .before .before .before .before))
+
+if-done-requires-2 : tie.Need-if-done-requires-2 Inv-loop μ-loop
+if-done-requires-2 c κs = search needs
 
 loop-less : tie.Need-loop-less Inv-loop μ-loop
 loop-less c =
     let t = c .before .before .before .before .before in
-    rw (c .following .ensures) (fewer (c .before .before .admit .result .number) (i t) (n t) (t .loop-test .taken))
+    rw (c .if-done2 .ensures) (fewer (c .before .before .admit .result .number) (i t) (n t) (t .loop-test .taken))
 
 loop-again : tie.Need-loop-again Inv-loop μ-loop
 loop-again c =
     let d = c .before .before in
     let t = d .before .before .before in
     let f = t .before .before in
-    rw (c .following .ensures)
-    (walked-more (m t) (b t) (first t) (n t) (f .before .first-number .ensures) (f .rows-to-judge .ensures) (t .before .loop .number) (i t) (t .before .loop .bridges) (t .before .loop .inv)
+    rw (c .if-done2 .ensures)
+    (walked-more (m t) (b t) (first t) (n t) (f .before .first-number .ensures) (f .if-done .ensures) (t .before .loop .number) (i t) (t .before .loop .bridges) (t .before .loop .inv)
     (t .loop-test .taken) (d .admit .result .number) (d .admit .result .bridge) (judged d .0) (judged d .1))
 
 no-bridge-requires : tie.Need-no-bridge-requires Inv-loop μ-loop
 no-bridge-requires c κs = search needs
 
-bridges-placed-requires : tie.Need-bridges-placed-requires Inv-loop μ-loop
-bridges-placed-requires c κs = search needs
+if-done-requires-3 : tie.Need-if-done-requires-3 Inv-loop μ-loop
+if-done-requires-3 c κs = search needs
 
 returns : tie.Need-returns Inv-loop μ-loop
 unfolding maxRows
@@ -130,10 +134,10 @@ returns c =
     let r = l .before in
     let a = r .before .before .before .before .before .args in
     ⊎-elim
-    (λ w. walked-refused (now (a .mcfg)) (now (a .bytes)) (r .before .first-number .result) (r .rows-to-judge .result) (r .before .first-number .ensures) (r .rows-to-judge .ensures)
-    (l .loop .number) (l .loop .i) (l .loop .bridges) (l .loop .inv) (j .before .loop-test .left) (j .if1 .bridges) (c .bridges-placed .result) (c .bridges-placed .ensures) (w .0 .taken) (w .2 ∙ ap (λ (x : Bridge). padded x maxRows []) (w .1 .ensures)))
-    (λ w. walked-all (now (a .mcfg)) (now (a .bytes)) (r .before .first-number .result) (r .rows-to-judge .result) (r .before .first-number .ensures) (r .rows-to-judge .ensures)
-    (l .loop .number) (l .loop .i) (l .loop .bridges) (l .loop .inv) (j .before .loop-test .left) (j .if1 .bridges) (c .bridges-placed .result) (c .bridges-placed .ensures) (w .0 .left) (w .1))
+    (λ w. walked-refused (now (a .mcfg)) (now (a .bytes)) (r .before .first-number .result) (r .if-done .result) (r .before .first-number .ensures) (r .if-done .ensures)
+    (l .loop .number) (l .loop .i) (l .loop .bridges) (l .loop .inv) (j .before .loop-test .left) (j .if1 .bridges) (c .if-done3 .result) (c .if-done3 .ensures) (w .0 .taken) (w .2 ∙ ap (λ (x : Bridge). padded x maxRows []) (w .1 .ensures)))
+    (λ w. walked-all (now (a .mcfg)) (now (a .bytes)) (r .before .first-number .result) (r .if-done .result) (r .before .first-number .ensures) (r .if-done .ensures)
+    (l .loop .number) (l .loop .i) (l .loop .bridges) (l .loop .inv) (j .before .loop-test .left) (j .if1 .bridges) (c .if-done3 .result) (c .if-done3 .ensures) (w .0 .left) (w .1))
     (j .if1 .came)
 
 pub start-bytes-spec : {M : Type 1} → statement M
@@ -144,16 +148,17 @@ start-bytes-spec =
     μ-loop
     no-places-requires
     first-number-requires
-    rows-to-judge-requires
+    if-done-requires
     loop-holds
     row-at-requires
     apart-before-requires
     admit-requires
     mul-bridges
     array-set-from-bridges
-    following-requires
+    add-if-done
+    if-done-requires-2
     loop-less
     loop-again
     no-bridge-requires
-    bridges-placed-requires
+    if-done-requires-3
     returns)
