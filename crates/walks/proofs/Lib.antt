@@ -1,0 +1,12 @@
+pub mod Kit
+pub mod Frame
+pub mod Turns
+pub mod Values
+pub mod Inside
+pub mod Contracts
+pub mod Params
+pub mod Calls
+pub mod Lending
+pub mod Borrowed
+pub mod Shared
+pub mod Parts
