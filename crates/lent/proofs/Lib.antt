@@ -1,7 +1,4 @@
-pub mod Walks
-pub mod RowIn
-pub mod Params
+pub mod Ways
 pub mod RowSteps
-pub mod Reading
-pub mod InPlace
-pub mod Ends
+pub mod Endings
+pub mod OnRow
