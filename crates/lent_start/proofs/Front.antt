@@ -1,26 +1,26 @@
--- An array in a local's memory: an element is replaced, and the first n are lent.
+-- An array in a local: it is a value in memory, and its first n elements are lent.
 --     take-min     the first of a list, however many are asked for
 --     rest         the elements after the first n.        cuts, glues      the first n elements of a row in memory, apart from the rest, and back
---     item-out, item-put           as steps: element i of the array is taken out, and another value is put in its place
+--     to-memory, to-local          as steps: the local's cell is the array in memory, and is the local's cell again
 --     lends-first, first-back      as steps: the first n elements are lent as a shared slice, and come back
 -- `take-min` assumes nothing, the others assume `Given`.
 use mathlib.Core.Path.{_≡_, refl, sym, ap, _∙_}
 use mathlib.Core.Bool.{Bool, true, false}
-use Prim.Native.Nat.{ℕ, zero, suc, _+_, _*_, _<_, min}
+use Prim.Native.Nat.{ℕ, zero, suc, _+_, min}
 use native.Mathlib.Nat.{min-eq-left, min-eq-right}
 use native.Mathlib.Omega.{arith}
 use mathlib.Core.List.{List, [], _∷_}
 use borrow.Author.Tests.{leb-true, leb-false}
 use lib.Dec.{leb}
-use lib.ListN.{length, take, getD, set, length-set}
+use lib.ListN.{length, take}
 use lib.Seq.{take-all}
-use Rattle.walks.proofs.Kit.{URA, fullShare, erased, Val, ent, sep, Fml, GName, Share, ftrue, fsep, fat, flft, flent, Heap, Atoms, sem, Given, Goal, Soaks, Item, Seq, Step, ‵, _⊛_, some, later, _$_, _∵_, !, qed, by, move, use1, use2, drop, split, pick, await, rewrite, fsplit, fjoin, fpick, fpack, feqI, frame, done, arr-parts, RattleType, Is, shows, cellAt, partAt, mem, shares, RefT, ShrSlice, Room, slice-vals, Array, nothing, facts, owned}
+use Rattle.walks.proofs.Kit.{URA, fullShare, erased, Val, ent, sep, Fml, GName, Share, ftrue, fsep, fat, flft, flent, Heap, Atoms, sem, Given, Goal, Soaks, Item, Seq, Step, ‵, _⊛_, some, later, _$_, _∵_, !, qed, move, use1, use2, drop, split, pick, await, fsplit, fjoin, fpick, fpack, feqI, done, arr-parts, RattleType, Is, shows, cellAt, partAt, mem, shares, RefT, ShrSlice, Room, slice-vals, Array, nothing, facts, owned}
 use types.Kit.{step}
 use types.Tokens.{lft-new, lft-end, lent-back}
 use denote.Lend.{lends-shr-slice}
 use denote.Memory.{partOf}
 use denote.ArrayMemory.{Single, array-apart, array-whole}
-use denote.Index.{row, place-is, others, elem-out, elem-put}
+use denote.Index.{row}
 use denote.Struct.Steps.{spelt}
 use Rattle.walks.proofs.Values.{Value, array}
 
@@ -77,53 +77,27 @@ module _ (V′ : Value) (N l : ℕ) where
   abbrev Parts : ℕ → List (R .Denot) → Fml
   Parts n xs = arr-parts (shares R) (length (take n xs)) .part fullShare (take n xs) l 0
 
-  module _ {M : Type 1} (𝓤 : URA M) (H : Heap 𝓤) (A : Atoms 𝓤) (W : Given 𝓤 H A) (xs : List (R .Denot)) where
-    into-memory : Single (R .mir) → IsArray xs → ent 𝓤 (sem 𝓤 H A (Whole xs)) (sem 𝓤 H A (Apart xs))
-    unfolding partOf
-    into-memory s is =
-        let v = array V′ N .val xs in
-        qed W (‵ (Whole xs) ∷ []) ∵ use1 W (‵ (cellAt fullShare (Array R N .mir) (v ∷ []) l 0)) (W .laws .at-raw fullShare (array V′ N .ty) l 0 v) $
-        owned ! (Array R N) (Is (Array R N)) (array V′ N .makes 𝓤 H A W) xs (v ∷ []) is $ move ! (1 ∷ 0 ∷ []) $ fjoin ! $
-        fpack ! (List Val) (λ vs. fsep (cellAt fullShare (Array R N .mir) vs l 0) (Array R N .own xs vs)) (v ∷ []) $ by ! (array-apart 𝓤 H A W R fullShare s N xs l 0)
-
-    out-of-memory : ent 𝓤 (sem 𝓤 H A (Apart xs)) (sep 𝓤 (sem 𝓤 H A (Whole xs)) (sem 𝓤 H A (Array R N .own xs (array V′ N .val xs ∷ []))))
-    unfolding partOf
-    out-of-memory =
-        qed W (‵ (Apart xs) ∷ []) ∵ use1 W (‵ (partAt (Array R N) fullShare xs l 0)) (array-whole 𝓤 H A W R fullShare N xs l 0) $
-        fpick ! (λ vs. fsplit ! $ spelt ! (Array R N) (Is (Array R N)) (shows 𝓤 H A (Array R N)) (λ x. array V′ N .val x ∷ []) (array V′ N .tells) fullShare xs vs l 0 $
-        use1 W (‵ (Whole xs)) (W .laws .raw-at fullShare (array V′ N .ty) l 0 (array V′ N .val xs)) $ frame ! $ done !)
-
   module _ {M : Type 1} {𝓤 : URA M} {H : Heap 𝓤} {A : Atoms 𝓤} {K : Type 0} {W : Given 𝓤 H A} {Γ : List (Item 𝓤)} {G : Goal 𝓤 H} where
-    -- the elements, apart from each other, and whole again
-    elements : K → Single (R .mir) → (xs : List (R .Denot)) → IsArray xs → Step K W (‵ (row R fullShare xs l 0) ∷ Γ) G (‵ (Whole xs) ∷ Γ) G
-    elements t s xs is = step (λ k. use1 W (‵ (Apart xs)) (into-memory 𝓤 H A W xs s is) $ fsplit t $ drop t $ k)
+    pub to-memory : K → (xs : List (R .Denot)) → IsArray xs → Step K W (‵ (partAt (Array R N) fullShare xs l 0) ∷ Γ) G (‵ (Whole xs) ∷ Γ) G
+    unfolding partOf
+    to-memory t xs is = step (λ k. let v = array V′ N .val xs in
+        use1 W (‵ (cellAt fullShare (Array R N .mir) (v ∷ []) l 0)) (W .laws .at-raw fullShare (array V′ N .ty) l 0 v) $ owned t (Array R N) (Is (Array R N)) (array V′ N .makes 𝓤 H A W) xs (v ∷ []) is $ move t (1 ∷ 0 ∷ []) $ fjoin t $
+        fpack t (List Val) (λ vs. fsep (cellAt fullShare (Array R N .mir) vs l 0) (Array R N .own xs vs)) (v ∷ []) $ k)
 
-    whole : K → (xs : List (R .Denot)) → length xs ≡ N → (IsArray xs → Seq K W (‵ (Whole xs) ∷ Γ) G) → Seq K W (‵ (row R fullShare xs l 0) ∷ Γ) G
-    whole t xs e k =
-        feqI t ℕ (length xs) N e $ fjoin t $ use1 W (‵ (Whole xs) ⊛ ‵ (Array R N .own xs (array V′ N .val xs ∷ []))) (out-of-memory 𝓤 H A W xs) $ split t $ move t (1 ∷ []) $
-        facts t (Array R N) (Is (Array R N)) (shows 𝓤 H A (Array R N)) xs (array V′ N .val xs ∷ []) k
-
-    -- element i is taken out, and y is put in its place
-    pub item-out : K → Single (R .mir) → (xs : List (R .Denot)) → IsArray xs → (i : ℕ) (d : R .Denot) → i < N
-        → Step K W (‵ (cellAt fullShare (R .mir) (V′ .val (getD xs i d) ∷ []) l (i * mem R .size + 0)) ∷ ‵ (others (shares R) fullShare xs i l 0) ∷ Γ) G (‵ (Whole xs) ∷ Γ) G
-    item-out t s xs is i d lt = step (λ k. elements t s xs is $
-        elem-out t R (Is R) (shows 𝓤 H A R) (λ x. V′ .val x ∷ []) (V′ .tells) fullShare xs i d l 0 (rw (is .1 .0 .1) lt) (λ _.
-        rewrite t 0 (λ (p : ℕ). ‵ (cellAt fullShare (R .mir) (V′ .val (getD xs i d) ∷ []) l p)) (place-is (mem R .size) 0 i) refl $ move t (1 ∷ []) $ drop t $ k))
-
-    pub item-put : K → (xs : List (R .Denot)) → IsArray xs → (i : ℕ) → i < N → (y : R .Denot) → Is R y (V′ .val y ∷ []) → (IsArray (set xs i y) → Seq K W (‵ (Whole (set xs i y)) ∷ Γ) G)
-        → Seq K W (‵ (cellAt fullShare (R .mir) (V′ .val y ∷ []) l (i * mem R .size + 0)) ∷ ‵ (others (shares R) fullShare xs i l 0) ∷ Γ) G
-    item-put t xs is i lt y is-y k =
-        rewrite t 0 (λ (p : ℕ). ‵ (cellAt fullShare (R .mir) (V′ .val y ∷ []) l p)) (sym (place-is (mem R .size) 0 i)) refl $ owned t R (Is R) (V′ .makes 𝓤 H A W) y _ is-y $ move t (1 ∷ 0 ∷ []) $
-        elem-put t R fullShare xs i y (V′ .val y ∷ []) l 0 (rw (is .1 .0 .1) lt) $ whole t (set xs i y) (length-set xs i y ∙ is .1 .0 .1) k
+    pub to-local : K → (xs : List (R .Denot)) → (IsArray xs → Seq K W (‵ (Whole xs) ∷ Γ) G) → Seq K W (‵ (partAt (Array R N) fullShare xs l 0) ∷ Γ) G
+    unfolding partOf
+    to-local t xs k = fpick t (λ vs. fsplit t $ spelt t (Array R N) (Is (Array R N)) (shows 𝓤 H A (Array R N)) (λ x. array V′ N .val x ∷ []) (array V′ N .tells) fullShare xs vs l 0 $
+        use1 W (‵ (Whole xs)) (W .laws .raw-at fullShare (array V′ N .ty) l 0 (array V′ N .val xs)) $ move t (1 ∷ []) $ facts t (Array R N) (Is (Array R N)) (shows 𝓤 H A (Array R N)) xs (array V′ N .val xs ∷ []) k)
 
     module _ (n : ℕ) (xs : List (R .Denot)) where
       -- they are lent for a lifetime that is made here: [its token; what the slice owns; what is lent; the rest; …]. It ends, and the array is whole again
       pub lends-first : K → Soaks G → Single (R .mir) → IsArray xs → Room R (length (take n xs))
           → ((α : ℕ) (γ : GName) → Seq K W (‵ (flft (α ∷ []) fullShare) ∷ ‵ (ShrSlice erased (α ∷ []) R .own (first n xs γ) (slice-vals (first n xs γ))) ∷ ‵ (flent (α ∷ []) (Parts n xs)) ∷ ‵ (rest R fullShare n xs l 0) ∷ Γ) G) → Seq K W (‵ (Whole xs) ∷ Γ) G
       lends-first t z s is room k =
-          elements t s xs is $ use1 W (‵ (row R fullShare (take n xs) l 0) ⊛ ‵ (rest R fullShare n xs l 0)) (cuts R fullShare 𝓤 H A W n xs l 0) $ split t $ feqI t ℕ (length (take n xs)) (length (take n xs)) refl $ fjoin t $
+          to-memory t xs is $ use1 W (‵ (Apart xs)) (array-apart 𝓤 H A W R fullShare s N xs l 0) $ fsplit t $ drop t $ use1 W (‵ (row R fullShare (take n xs) l 0) ⊛ ‵ (rest R fullShare n xs l 0)) (cuts R fullShare 𝓤 H A W n xs l 0) $ split t $ feqI t ℕ (length (take n xs)) (length (take n xs)) refl $ fjoin t $
           lft-new t z (λ α. move t (1 ∷ []) $ use1 W (later (some (λ (γ : GName). ‵ (ShrSlice erased (α ∷ []) R .own (first n xs γ) (slice-vals (first n xs γ))) ⊛ ‵ (flent (α ∷ []) (Parts n xs))))) (lends-shr-slice 𝓤 H A W R erased (α ∷ []) fullShare (take n xs) l 0 room) $
           await t z $ pick t (λ γ. split t $ move t (2 ∷ []) $ k α γ))
 
       pub first-back : K → Soaks G → IsArray xs → (α : ℕ) → Step K W (‵ (Whole xs) ∷ Γ) G (‵ (flft (α ∷ []) fullShare) ∷ ‵ (flent (α ∷ []) (Parts n xs)) ∷ ‵ (rest R fullShare n xs l 0) ∷ Γ) G
-      first-back t z is α = step (λ k. lft-end t z $ lent-back t z $ fsplit t $ drop t $ use2 W (‵ (row R fullShare xs l 0)) (glues R fullShare 𝓤 H A W n xs l 0) $ whole t xs (is .1 .0 .1) (λ _. k))
+      first-back t z is α = step (λ k. lft-end t z $ lent-back t z $ fsplit t $ drop t $ use2 W (‵ (row R fullShare xs l 0)) (glues R fullShare 𝓤 H A W n xs l 0) $
+          feqI t ℕ (length xs) N (is .1 .0 .1) $ fjoin t $ use1 W (‵ (partAt (Array R N) fullShare xs l 0)) (array-whole 𝓤 H A W R fullShare N xs l 0) $ to-local t xs (λ _. k))

@@ -2,7 +2,7 @@
 --     Blocks           where they lie.        locals, envs      the MIR's list of them, and what they are bound to
 --     Cells            their memory as one formula, by the values that they hold; the values not listed are not there.        filled      with a value in one of them
 --     stack            the same entry by entry, the last local in front.        spread, pack        from the one to the other
---     alloc-all, free-all      they are allocated, and freed.        pass-all      the first of them are passed values
+--     alloc-all, free-all      they are allocated, and freed.        pass-all      the first of them are passed values.        enters, leaves      a function of known locals is entered, and left
 --     Has, Bound       the environment has a local at a number, and locals of these types from a number on.        finds       a place in such a local
 --     Groups, group-locals, env-from, first-of         of groups of locals, one behind the other: where they lie, the MIR's list of them, the environment from one on, and the number of its first.        in-group        the environment has them there
 --     Cell             a cell among those of a formula: it can be taken out, and put back.        first-cell, later-cell, reads      it is the first, or a later one, and is read there

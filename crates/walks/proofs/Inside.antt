@@ -1,6 +1,7 @@
 -- A part of a value in memory: it is taken out, and it or another is put in its place. For any type, any field, any element type and any length.
 --     Inside           R at h lies at (b, o), with F at f in it at (b, p); with f′ there it is R at h′
 --     _then_           what is inside a part is inside the whole
+--     item-put         element i of an array is inside, to be replaced
 --     record-look, record-put      element i of a field that is an array of structs is inside, to be left as it is or replaced: of the field's `look-at` or `put-at` (`Borrow/Struct/Behind.antt`)
 --     take, put        as steps: the part is taken out, its machine value written out and its relation in hand; and put in its place
 -- The lemmas assume `Given`.
@@ -51,7 +52,7 @@ module _ {M : Type 1} {𝓤 : URA M} {H : Heap 𝓤} {A : Atoms 𝓤} (W : Given
     item-look : Inside q (Array R n) R xs xs x x b o p
     item-look = item x xs refl (glance 𝓤 H A (Sh R q) d i xs b o)
 
-    item-put : (y : R .Denot) → Inside q (Array R n) R xs (set xs i y) x y b o p
+    pub item-put : (y : R .Denot) → Inside q (Array R n) R xs (set xs i y) x y b o p
     item-put y = item y (set xs i y) (length-set xs i y) (focus 𝓤 H A (Sh R q) d y i xs b o)
 
 module _ {M : Type 1} {𝓤 : URA M} {H : Heap 𝓤} {A : Atoms 𝓤} {W : Given 𝓤 H A} where

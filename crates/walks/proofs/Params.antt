@@ -1,11 +1,10 @@
--- The parameters of a function that hands them all on to one callee, in a list: values, shared slices and `&mut` slices.
+-- The parameters of a function, in a list: values, shared slices and `&mut` slices.
 --     Form             how a parameter is handed on: its local is copied, or, of a `&mut` slice, lent on through two further locals
---     Param n          a parameter's type at n lifetimes, the callee's: `value`, `shared-slice` and `mut-slice` are the kinds
---     View             a signature that has these lifetimes among its own: `inner`, the callee's, and `outer`, the function's, whose lifetime 0 is that of what it works on
---     slots, tys, vals, all-typed      of a list of these in such a signature: the slots, the MIR types of their locals, their machine values, and that these are of those types
---     carry, flat-same, owns-same, lasts-back, lasts-same      the values from the one signature to the other: their machine values, what they own, and what is said of their last values stay
---     more-tys, lents, lending, operands       the locals by which `&mut` slices are lent on, what they then hold, the statements that fill them, and the operands of the call.        lend-all, read-all      the statements run, and the operands are read
--- The steps assume `Given`, the others nothing.
+--     Param n          a parameter's type at n lifetimes: `value`, `shared-slice` and `mut-slice` are the kinds.        Handing      what a caller must have of it, and has after the call
+--     View             a signature that has these lifetimes among its own: `inner`, a function's own, and `outer`, that of a function of a `&mut` besides, whose lifetime 0 is the reference's
+--     slots, tys, vals, Owns, all-typed        of a list of these in such a signature: the slots, the MIR types of their locals, their machine values, what they own, and that the values are of the types
+--     carry, vals-same, owns-same, lasts-back, lasts-same      from a signature to `inner`, and back: the machine values, what is owned, and what is said of last values stay
+-- Assumes nothing; the laws take `Given`.
 use mathlib.Core.Path.{_≡_, refl, ap}
 use mathlib.Core.Bool.{Bool}
 use mathlib.Core.Option.{Option, some}

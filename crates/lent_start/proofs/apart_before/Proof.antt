@@ -14,7 +14,7 @@ use mathlib.Core.List.{List, [], _∷_, _++_}
 use lib.Dec.{ltb→lt, nltb→le, lit<}
 use lib.ListN.{length, take, getD}
 use lib.Seq.{take-suc}
-use Rattle.walks.proofs.Kit.{URA, fullShare, Ty, named, imm, tyBool, tyPtr, tyRef, Val, vbool, SProp, emp, id⊢, Lft, Share, flft, fat, Model, Heap, Out, Env, afterSeq, afterBlock, Wp, atReturn, Tables, factI, GhostRules, Running, Given, Item, Sq, prop, ‵, runs, anyQ, atRet, _$_, !, move, keep, rewrite, whole, sub, look-in, look, look-raw, store, init, forget, stop, hop, fld, from, load, lit, true-lit, of-opd, bin, and-then, no-more, assigns, assigns-last, land, first, skips, jumps, blocks, branches, returns, exec, Below, again, loops, Is, pointee, RefT, sliceTy, sliceVal, Room, heard}
+use Rattle.walks.proofs.Kit.{URA, fullShare, Ty, named, imm, tyBool, tyPtr, tyRef, Val, vbool, SProp, emp, id⊢, Lft, Share, flft, fat, Model, Heap, Out, Env, Tables, factI, GhostRules, Running, Given, Item, Sq, prop, ‵, runs, anyQ, atRet, _$_, !, move, keep, rewrite, whole, sub, look-in, look, look-raw, store, init, forget, stop, hop, fld, from, load, lit, true-lit, of-opd, bin, and-then, no-more, assigns, assigns-last, land, first, skips, jumps, blocks, branches, returns, exec, again, loops, Is, pointee, RefT, sliceTy, sliceVal, Room, heard}
 use prog.Wp.{afterTurn}
 use Rattle.rules.specs.Lists.{every}
 use Rattle.rules.specs.Start.{rowsApart}
@@ -26,7 +26,7 @@ use Rattle.start.proofs.rows_apart as apart
 use Rattle.start.proofs.rows_apart.Symbol as apart-def
 use Rattle.start.proofs.rows_apart.Met as apart-thm
 use Rattle.walks.proofs.Frame.{Blocks, envs, stack, filled, those, enters, leaves}
-use Rattle.walks.proofs.Turns.{past, Nearer, Nearer-wf}
+use Rattle.walks.proofs.Turns.{past, Nearer, Nearer-wf, turned}
 use Rattle.walks.proofs.Values.{truth, word}
 use Rattle.walks.proofs.Contracts.{machine}
 use Rattle.walks.proofs.Params.{Param, value, shared-slice}
@@ -73,9 +73,8 @@ module _ {M : Type 1} (𝓤 : URA M) (H : Heap 𝓤) (𝓜 : Model 𝓤 H) (𝓖
     abbrev At : State → List (Item 𝓤)
     At z = ‵ (flft κ q) ∷ ‵ (Rows κ y) ∷ stack (tyBool ∷ τs) ls (held (z .j)) []
 
-    -- where a turn ends: nearer to the end, or the loop is left and the rest of the body runs
     abbrev Turned : State → Out → SProp 𝓤
-    Turned z = afterTurn 𝓤 H (Below 𝓤 H (𝓖 .A) (Nearer i looked) At z) (afterBlock 𝓤 H (afterSeq 𝓤 H (Wp 𝓤 H (𝓣 .C) (𝓣 .Λ) En body.t-4 (atReturn 𝓤 H En Post)) (atReturn 𝓤 H En Post)))
+    Turned = turned 𝓤 H (𝓖 .A) 𝓣 En Post body.t-4 (Nearer i looked) At
 
     module _ (z : State) where
       -- the row that the turn reads

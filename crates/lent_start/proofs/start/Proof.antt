@@ -15,9 +15,10 @@ use native.Mathlib.Omega.{arith}
 use mathlib.Core.List.{List, [], _∷_, _++_}
 use lib.Dec.{ltb→lt, nltb→le, lit<}
 use lib.ListN.{length, take, getD, set}
-use Rattle.walks.proofs.Kit.{URA, Ty, named, imm, w8, tyBool, tyPtr, tyRef, Operand, seq, call, place, return, Val, SProp, emp, id⊢, Lft, Share, flft, Model, Heap, Out, Env, afterSeq, afterBlock, Wp, atReturn, Tables, factI, GhostRules, Running, Given, Item, Post as Ends, post, Sq, Go, prop, ‵, runs, anyQ, atRet, _$_, !, move, keep, whole, sub, look-in, Opds, look, look-raw, store, store-raw, init, forget, stop, hop, fld, from, load, lit, of-opd, bin, addr, and-then, no-more, assigns, assigns-last, land, first as front, skips, jumps, blocks, branches, returns-within, exec, Below, again, loops, u8, Is, mem, pointee, RefT, sliceTy, sliceVal, ShrSlice, slice-vals}
+use Rattle.walks.proofs.Kit.{fullShare, URA, Ty, named, imm, w8, tyBool, tyPtr, tyRef, Operand, seq, call, place, return, Val, SProp, emp, id⊢, Lft, Share, flft, Model, Heap, Out, Env, atReturn, Tables, factI, GhostRules, Running, Given, Item, Post as Ends, post, Sq, Go, prop, ‵, runs, anyQ, atRet, _$_, !, move, keep, whole, sub, look-in, Opds, look, look-raw, store, store-raw, init, forget, stop, hop, fld, from, load, lit, of-opd, bin, addr, and-then, no-more, assigns, assigns-last, land, first as front, skips, jumps, blocks, branches, returns-within, exec, again, loops, u8, Is, mem, pointee, RefT, sliceTy, sliceVal, ShrSlice, slice-vals}
 use prog.Wp.{returns as returned, afterTurn}
 use denote.Struct.Laws as LL
+use borrow.Table.Elements.{at-mul}
 use Rattle.rules.specs.Limits.{maxRows}
 use Rattle.rules.specs.Lists.{every, padded}
 use Rattle.rules.specs.Mcfg.{entries}
@@ -50,14 +51,15 @@ use Rattle.start.proofs.with_bridges as full
 use Rattle.start.proofs.with_bridges.Symbol as full-def
 use Rattle.start.proofs.with_bridges.Met as full-thm
 use Rattle.walks.proofs.Frame.{Blocks, envs, stack, filled, those, enters, leaves}
-use Rattle.walks.proofs.Turns.{past, Nearer, Nearer-wf}
+use Rattle.walks.proofs.Turns.{past, Nearer, Nearer-wf, turned}
 use Rattle.walks.proofs.Values.{Value, number, truth, struct, array, word}
 use Rattle.walks.proofs.Contracts.{machine}
+use Rattle.walks.proofs.Inside.{Inside, item-put, take as take-out, put}
 use Rattle.walks.proofs.Params.{Param, value, shared-slice}
 use Rattle.walks.proofs.Calls.{then, invokes}
 use Rattle.walks.proofs.Shared.{on-shared}
 use Rattle.lent_start.proofs.RowWalk.{row, answer, size, offset-fits, nonzero, is-zero, Rows, row-out, row-back}
-use Rattle.lent_start.proofs.Front.{item-out, item-put}
+use Rattle.lent_start.proofs.Front.{to-memory, to-local}
 use Rattle.lent_start.proofs.apart_before as before
 use Rattle.lent_start.proofs.apart_before.Symbol as before-def
 use Rattle.lent_start.proofs.apart_before.Met as before-thm
@@ -141,9 +143,8 @@ module _ {M : Type 1} (𝓤 : URA M) (H : Heap 𝓤) (𝓜 : Model 𝓤 H) (𝓖
     abbrev At : State → List (Item 𝓤)
     At z = With (held (none ∷ some (places .val (z .l)) ∷ some (word .val (z .i)) ∷ []))
 
-    -- where a turn ends: nearer to the end, or the loop is left and the rest of the body runs
     abbrev Turned : State → Out → SProp 𝓤
-    Turned z = afterTurn 𝓤 H (Below 𝓤 H (𝓖 .A) (Nearer (length ys) walked) At z) (afterBlock 𝓤 H (afterSeq 𝓤 H (Wp 𝓤 H (𝓣 .C) (𝓣 .Λ) En body.t-9 (atReturn 𝓤 H En Post)) (atReturn 𝓤 H En Post)))
+    Turned = turned 𝓤 H (𝓖 .A) 𝓣 En Post body.t-9 (Nearer (length ys) walked) At
 
     module _ (z : State) where
       -- the row that the turn reads, and whether it is apart from the rows before it
@@ -191,11 +192,14 @@ module _ {M : Type 1} (𝓤 : URA M) (H : Heap 𝓤) (𝓜 : Model 𝓤 H) (𝓖
               assigns ! (bin ! (load ! (from ! (stop !)) (look ! 26 refl)) (lit ! tt) (record { fits = place-fits (z .i) in-table })) (from ! (stop !)) (init ! 14 refl (tt, record { fits = place-fits (z .i) in-table })) $
               assigns ! (addr ! (from ! (stop !))) (from ! (stop !)) (init ! 6 refl (tt, tt)) $
               assigns ! (bin ! (load ! (from ! (stop !)) (look ! 6 refl)) (load ! (from ! (stop !)) (look ! 14 refl)) tt) (from ! (stop !)) (init ! 4 refl (tt, tt)) $
-              move ! (28 ∷ []) $ item-out bridge maxRows at-places ! tt (z .l) (z .is) (z .i) noBridge in-table $
+              move ! (28 ∷ []) $ to-memory bridge maxRows at-places ! (z .l) (z .is) $ take-out ! bridge way (λ _.
               assigns ! (of-opd ! (load ! (from ! (fld ! refl (stop !))) (look-in ! 24 (sub ! 1 refl (whole !))))) (from ! (hop ! (look ! 6 refl) (stop !))) (store-raw ! 0 refl (bridge .typed 𝓤 H (𝓖 .A) W (a .bridge) is-bridge)) $
-              item-put bridge maxRows at-places ! (z .l) (z .is) (z .i) in-table (a .bridge) is-bridge (λ is′. move ! (those 1 28) $
+              put ! bridge way is-bridge $ to-local bridge maxRows at-places ! (set (z .l) (z .i) (a .bridge)) (λ is′. move ! (those 1 28) $
               assigns-last ! (bin ! (load ! (from ! (stop !)) (look ! 26 refl)) (lit ! tt) (record { fits = next-fits })) (from ! (stop !)) (store ! 26 refl (tt, record { fits = next-fits })) $
-              forget ! 4 refl $ forget ! 6 refl $ forget ! 14 refl $ forget ! 22 refl $ again ! (Nearer (length ys) walked) At z (onward zero′ is′) (add-one-dec (length ys) (z .i) left))
+              forget ! 4 refl $ forget ! 6 refl $ forget ! 14 refl $ forget ! 22 refl $ again ! (Nearer (length ys) walked) At z (onward zero′ is′) (add-one-dec (length ys) (z .i) left)))
+            where
+              way : Inside W fullShare (places .row) B.the-row (z .l) (set (z .l) (z .i) (a .bridge)) (getD (z .l) (z .i) noBridge) (a .bridge) at-places 0 (z .i * mem B.the-row .size + 0)
+              way = item-put W fullShare B.the-row tt maxRows (z .i) (z .i * mem B.the-row .size + 0) at-places 0 (z .l) noBridge (at-mul 0 (mem B.the-row .size) (z .i)) in-table (a .bridge)
 
         -- the row's place, and the row; it is compared with the rows before it, and judged
         judge : Sq W (At z) (runs (𝓣 .C) (𝓣 .Λ) En (past 3 body.turn-1) (anyQ (Turned z)))

@@ -9,7 +9,7 @@ use native.Mathlib.Omega.{arith}
 use mathlib.Core.List.{List, [], _∷_, _++_}
 use mathlib.Core.Option.{Option, none, some}
 use lib.Dec.{ltb→lt, nltb→le}
-use Rattle.walks.proofs.Kit.{URA, fullShare, Ty, tyBool, tyPtr, Val, vptr, SProp, emp, id⊢, GName, Lft, Share, fobs, fauth, fobor, Model, Heap, Out, Env, afterSeq, afterBlock, Wp, atReturn, Tables, factI, GhostRules, Running, Given, Item, prop, ‵, runs, anyQ, atRet, Sq, raw, _$_, !, by, move, keep, use0, fjoin, whole, sub, look-in, look, look-raw, store, init, forget, stop, hop, fld, from, load, lit, of-opd, bin, addr, and-then, no-more, assigns, land, land-last, first, skips, jumps, blocks, branches, returns, exec, Below, again, loops, Body, Is, mem, partAt, nothing, atExit}
+use Rattle.walks.proofs.Kit.{URA, fullShare, Ty, tyBool, tyPtr, Val, vptr, SProp, emp, id⊢, GName, Lft, Share, fobs, fauth, fobor, Model, Heap, Out, Env, Tables, factI, GhostRules, Running, Given, Item, prop, ‵, runs, anyQ, atRet, Sq, raw, _$_, !, by, move, keep, use0, fjoin, whole, sub, look-in, look, look-raw, store, init, forget, stop, hop, fld, from, load, lit, of-opd, bin, addr, and-then, no-more, assigns, land, land-last, first, skips, jumps, blocks, branches, returns, exec, again, loops, Body, Is, mem, partAt, nothing, atExit}
 use prog.Wp.{afterTurn}
 use types.Mut.{open-ref, close-ref}
 use denote.Struct.Laws as LL
@@ -35,7 +35,7 @@ use Rattle.locate.proofs.seek as seek
 use Rattle.locate.proofs.seek.Symbol as seek-def
 use Rattle.locate.proofs.seek.Met as seek-thm
 use Rattle.walks.proofs.Frame.{Blocks, envs, stack, filled, those, enters, leaves}
-use Rattle.walks.proofs.Turns.{past, Nearer, Nearer-wf}
+use Rattle.walks.proofs.Turns.{past, Nearer, Nearer-wf, turned}
 use Rattle.walks.proofs.Values.{Value, struct, word}
 use Rattle.walks.proofs.Inside.{take, put}
 use Rattle.walks.proofs.Contracts.{machine}
@@ -97,9 +97,8 @@ module _ {M : Type 1} (𝓤 : URA M) (H : Heap 𝓤) (𝓜 : Model 𝓤 H) (𝓖
   abbrev At : State h s a → List (Item 𝓤)
   At z = ‵ (partAt T.the-row fullShare h b o) ∷ ‵ (fobor κ q (Body (mem T.the-row) b o γ)) ∷ ‵ (fobs γ (T.the-row .coded .code h)) ∷ ‵ (fauth γ (T.the-row .coded .code h)) ∷ stack (answer .ty ∷ τs) ls (held (z .p)) []
 
-  -- where a turn ends: nearer to the end, or the loop is left and the rest of the body runs
   abbrev Turned : State h s a → Out → SProp 𝓤
-  Turned z = afterTurn 𝓤 H (Below 𝓤 H (𝓖 .A) (Nearer (h .count) (looked h s a)) At z) (afterBlock 𝓤 H (afterSeq 𝓤 H (Wp 𝓤 H (𝓣 .C) (𝓣 .Λ) En body.t-4 (atReturn 𝓤 H En Post)) (atReturn 𝓤 H En Post)))
+  Turned = turned 𝓤 H (𝓖 .A) 𝓣 En Post body.t-4 (Nearer (h .count) (looked h s a)) At
 
   module _ (is-n : Is (word .row) (h .count) (word .val (h .count) ∷ [])) (z : State h s a) where
     abbrev p : Search
