@@ -1,7 +1,6 @@
 -- A call on the row in a bridge number's place of the array is the call on the table: the remainder finds the bridge that the table has, and another number is refused.
 use Prim.Native.Nat.{ℕ, zero, suc, _%_, _^_, _≤_, _<_}
 use mathlib.Core.Path.{_≡_, refl, sym, ap, subst, _∙_}
-use mathlib.Core.Bool.{true}
 use native.Mathlib.Decide.{decLt}
 use native.Mathlib.Nat.{mod-eq-of-lt}
 use native.Mathlib.Omega.{arith}
@@ -9,40 +8,37 @@ use borrow.Author.Tests.{le-leb}
 use Rattle.rules.specs.Tables.{holding, withHolding, bridgeAt, withBridge}
 use Rattle.rules.specs.Mcfg.{busEnd}
 use Rattle.rules.specs.Start.{Sound, RowSound}
-use Rattle.rules.specs.Calls.{Operation, osc, reset, report, address, registerValues, on, after, absent, numberAt, outcomeBy, bridgeBy, outcomeAt, rowAfter, step}
+use Rattle.rules.specs.Calls.{Operation, on, after, numberAt, outcomeBy, bridgeBy, outcomeAt, rowAfter, step}
 use Rattle.rules.specs.declared.Bridge.{Bridge}
 use Rattle.rules.specs.declared.BridgeNumber.{BridgeNumber}
 use Rattle.rules.specs.declared.SessionNumber.{SessionNumber}
 use Rattle.rules.specs.declared.Table.{Table}
-use Rattle.rules.proofs.Local.{same-bridge}
-
--- a number that the table has not is refused with 1, whatever is asked
-absent-number : (bridges : ℕ) (s : SessionNumber) (n : BridgeNumber) (b : Bridge) (o : Operation) → absent bridges n ≡ true → numberAt bridges s n b o ≡ 1
-absent-number bridges s n b (osc revision count uuid caps answer) e = rw e
-absent-number bridges s n b reset e = rw e
-absent-number bridges s n b report e = rw e
-absent-number bridges s n b (address bus device function offset width) e = rw e
-absent-number bridges s n b (registerValues slot block current) e = rw e
+use Rattle.rules.proofs.Local.{absent-first, same-bridge}
 
 -- a call changes nothing of a row but what it holds
 row-held : (k : ℕ) (b : Bridge) (o : Operation) → withHolding b (holding (bridgeBy k b o)) ≡ bridgeBy k b o
 row-held zero b o = refl
 row-held (suc k) b o = refl
 
+module _ (t : Table) (rows : ℕ) (few : t .count ≤ rows) (n : BridgeNumber) where
+  -- the place of a bridge that the table has is its number
+  there : n .0 < t .count → n .0 % rows ≡ n .0
+  there h = mod-eq-of-lt (omega arith)
+
+  -- the row in the place is sound where the table is
+  pub index-sound : Sound t → RowSound (t .count) n (bridgeAt t (n .0 % rows))
+  index-sound h l = subst (λ (i : ℕ). busEnd (bridgeAt t i .base) (bridgeAt t i .«last_bus») ≤ 2 ^ 64) (sym (there l)) (h .window-ends (n .0) l)
+
 module _ (t : Table) (rows : ℕ) (few : t .count ≤ rows) (s : SessionNumber) (n : BridgeNumber) (o : Operation) where
   abbrev index : ℕ
   index = n .0 % rows
 
-  -- the place of a bridge that the table has is its number
-  there : n .0 < t .count → index ≡ n .0
-  there h = mod-eq-of-lt (omega arith)
-
   refused : t .count ≤ n .0 → (i : ℕ) → numberAt (t .count) s n (bridgeAt t i) o ≡ 1
-  refused h i = absent-number (t .count) s n (bridgeAt t i) o (le-leb (t .count) (n .0) h)
+  refused h i = absent-first (t .count) s n (bridgeAt t i) o (le-leb (t .count) (n .0) h)
 
   pub index-outcome : outcomeAt (t .count) s n (bridgeAt t index) o ≡ step t (on s n o) .outcome
   unfolding step
-  index-outcome = elim (decLt (n .0) (t .count)) [ yes h ↦ ap (λ (i : ℕ). outcomeAt (t .count) s n (bridgeAt t i) o) (there h) | no h ↦ out (omega arith) ]
+  index-outcome = elim (decLt (n .0) (t .count)) [ yes h ↦ ap (λ (i : ℕ). outcomeAt (t .count) s n (bridgeAt t i) o) (there t rows few n h) | no h ↦ out (omega arith) ]
     where
       out : t .count ≤ n .0 → outcomeAt (t .count) s n (bridgeAt t index) o ≡ outcomeAt (t .count) s n (bridgeAt t (n .0)) o
       out h =
@@ -51,7 +47,7 @@ module _ (t : Table) (rows : ℕ) (few : t .count ≤ rows) (s : SessionNumber) 
 
   pub index-table : withBridge t index (rowAfter (t .count) s n (bridgeAt t index) o) ≡ step t (on s n o) .table
   unfolding step
-  index-table = elim (decLt (n .0) (t .count)) [ yes h ↦ ap (λ (i : ℕ). withBridge t i (rowAfter (t .count) s n (bridgeAt t i) o)) (there h) | no h ↦ out (omega arith) ]
+  index-table = elim (decLt (n .0) (t .count)) [ yes h ↦ ap (λ (i : ℕ). withBridge t i (rowAfter (t .count) s n (bridgeAt t i) o)) (there t rows few n h) | no h ↦ out (omega arith) ]
     where
       kept : (i : ℕ) → t .count ≤ n .0 → withBridge t i (rowAfter (t .count) s n (bridgeAt t i) o) ≡ t
       kept i h = ap (λ (k : ℕ). withBridge t i (bridgeBy k (bridgeAt t i) o)) (refused h i) ∙ same-bridge t i
@@ -73,7 +69,3 @@ module _ (t : Table) (rows : ℕ) (few : t .count ≤ rows) (s : SessionNumber) 
       go : (k : ℕ) → bridgeBy k (bridgeAt t (n .0)) o ≡ bridgeAt t (n .0)
       go zero = ap (withHolding (bridgeAt t (n .0))) (f (bridgeAt t (n .0)))
       go (suc k) = refl
-
-  -- the row in the place is sound where the table is
-  pub index-sound : Sound t → RowSound (t .count) n (bridgeAt t index)
-  index-sound h l = subst (λ (i : ℕ). busEnd (bridgeAt t i .base) (bridgeAt t i .«last_bus») ≤ 2 ^ 64) (sym (there l)) (h .window-ends (n .0) l)

@@ -1,13 +1,14 @@
 -- The calls on one row of a lent table, all by one theorem: `let i = rows::index(n); rows::f(t.count, t.bridges[i], s, n, p, ..)`, and an end (`Endings`). The parameters behind the bridge number are any list of `Params` in crates/walks, and the row's call takes the same.
 --     callee, caller           the two signatures
 --     mir-locals, mir-body     the function's MIR. Of a function that is known, that it has these is `refl`
+--     Sounds, Asks, Says       that the function requires a sound table, that the row's call may then be called, and that from what this ensures follows what the function does
 --     on-row                   the function meets its contract, where the row's call meets its own and the one follows from the other
 -- Assumes nothing: the walk takes `Given`, which `on-row` has of the machine.
-use mathlib.Core.Path.{_≡_, refl, sym, subst}
+use mathlib.Core.Path.{_≡_, refl, subst}
 use Prim.Native.Nat.{ℕ, suc}
 use mathlib.Core.List.{[], _∷_, List, map}
 use mathlib.Core.Option.{some}
-use Rattle.walks.proofs.Kit.{URA, Ty, Name, Local, Code, place, copy, call, seq, Fn, Val, vptr, SProp, ent, sep, emp, Fml, Memory, Model, Routine, Routines, Heap, WpFn, Env, Tables, Entry, Atoms, sem, Fun, fact, Lfts, Shares, toks, GhostRules, Running, tables, Given, Sq, prop, allocs, params′, runs, atRet, lands, ‵, raw, ⋆, _$_, _∵_, !, qed, by, move, drop, rewrite, use0, use1, use2, join, fsplit, fjoin, frame, done, enter, look, init, forget, stop, load, and-then, no-more, alloc1, alloc0, params1, pass1, free1, free0, fmOf, Is, RefT, yes, plain, owned, calls-from, Ended, Clauses, atExit, all, lastsOf, Triple}
+use Rattle.walks.proofs.Kit.{URA, Ty, Name, Local, Code, place, copy, call, seq, Fn, Val, vptr, SProp, ent, sep, emp, Fml, Memory, Model, Routine, Routines, Heap, Env, Tables, Entry, Atoms, sem, Fun, fact, Lfts, Shares, toks, GhostRules, Running, tables, Given, Sq, allocs, params′, runs, atRet, lands, ‵, raw, ⋆, _$_, _∵_, !, qed, by, move, drop, rewrite, use0, use1, use2, join, fsplit, fjoin, frame, done, look, init, forget, stop, load, and-then, no-more, alloc1, alloc0, params1, pass1, free1, free0, fmOf, Is, RefT, yes, plain, owned, calls-from, Ended, Clauses, atExit, all, lastsOf, Triple}
 use types.Kit.{step}
 use Rattle.rules.specs.Tables.{bridgeAt}
 use Rattle.rules.specs.Start.{Sound}
@@ -18,11 +19,12 @@ use Rattle.rows.proofs.index as indexed
 use Rattle.rows.proofs.index.Symbol as index-def
 use Rattle.rows.proofs.index.Symbol.{name as #index}
 use Rattle.rows.proofs.index.Met as index-thm
-use Rattle.walks.proofs.Frame.{Groups, group-locals, env-from, first-of, in-group, locals, filled, finds, pack, spread, alloc-all, pass-all, free-all, first-cell, later-cell, reads}
+use Rattle.walks.proofs.Frame.{Groups, group-locals, env-from, first-of, in-group, locals, filled, finds, pack, spread, alloc-all, pass-all, free-all, enters-as, first-cell, later-cell, reads}
 use Rattle.walks.proofs.Values.{told, word}
 use Rattle.walks.proofs.Contracts.{Clauses-of, Contracted, Post, came-back, machine, known}
-use Rattle.walks.proofs.Borrowed.{Lent, function, Entering, passed, on-borrow, exits as exits-at}
+use Rattle.walks.proofs.Borrowed.{Lent, function, Entering, on-borrow, exits as exits-at}
 use Rattle.walks.proofs.Params.{Param, value, outer, inner, slots, tys, Args, spelt, vals, Owns, all-typed, carry, vals-same, owns-same, Lasts′, lasts-back, lasts-same, Sound as Are}
+use Rattle.walks.proofs.Calls.{callee as call-of}
 use Rattle.walks.proofs.Lending.{more-tys, lents, lending, operands, lend-all, read-all}
 use Rattle.lent.proofs.Ways.{bridge, session, bridge-number, ref-ty, index}
 use Rattle.lent.proofs.RowSteps.{read-tys, copying, row-copied}
@@ -37,7 +39,7 @@ module _ {n : ℕ} (En : Ending) (Qs : List (Param n)) where
   RowAll = value word ∷ value bridge ∷ All
 
   abbrev callee : Ended
-  callee = record { signature = record { lifetimes = n; outlives = []; params = slots (inner n) RowAll; result = plain (λ _. En .given .row) }; kept = all yes (slots (inner n) RowAll) }
+  callee = call-of n RowAll (plain (λ _. En .given .row))
 
   abbrev caller : Ended
   caller = function T.the-row All (En .result)
@@ -141,12 +143,6 @@ module _ {n : ℕ} (En : Ending) (Qs : List (Param n)) where
             move ! (12 ∷ 13 ∷ 10 ∷ 14 ∷ 9 ∷ 15 ∷ 8 ∷ 16 ∷ 11 ∷ 17 ∷ []) $ step (pack W read-tys rs read) $ free-all W read-tys rs read (env-from gs bs 4) (
             move ! (7 ∷ []) $ free-all W Z es (lents (outer n) κs All a) (env-from gs bs 5) (free-all W (En .lasts) xs [] [] (free0 ! $ by ! (exits d (ws .1 .1) is′)))))))))))))))))))))
 
-        runs-it : (f : Fn) → f .locals ≡ mir-locals → f .body ≡ mir-body key → Sq W (Entering T.the-row All (En .result) 𝓤 H A c′ κs qs x a g) (prop (WpFn 𝓤 H (𝓣 .C) (𝓣 .Λ) f (passed T.the-row All (En .result) 𝓤 H A c′ κs qs x a g) End))
-        runs-it f f-locals f-body =
-            let vs = passed T.the-row All (En .result) 𝓤 H A c′ κs qs x a g in
-            enter ! (𝓣 .C) (𝓣 .Λ) f vs End $
-            subst (λ (p : List Local × Code). Sq W (Entering T.the-row All (En .result) 𝓤 H A c′ κs qs x a g) (allocs (p .0) (λ E. params′ E vs (runs (𝓣 .C) (𝓣 .Λ) E (p .1) (atRet E End))))) (λ z. (sym f-locals z, sym f-body z)) walk
-
   pub on-row : {M : Type 1} (𝓤 : URA M) (H : Heap 𝓤) (𝓜 : Model 𝓤 H) (𝓖 : GhostRules 𝓤 H) (𝓡 : Running 𝓤 H 𝓜) (parts : Clauses-of 𝓤 callee) (parts′ : Clauses-of 𝓤 caller) →
       let c : Clauses 𝓤 callee = parts (𝓖 .A) (𝓜 .mem) (𝓡 .run) in let c′ : Clauses 𝓤 caller = parts′ (𝓖 .A) (𝓜 .mem) (𝓡 .run) in
       (ghost : (κs : Lfts n) (y : Args (inner n) κs RowAll) → c κs y .ghost) → Sounds 𝓤 H (𝓖 .A) c c′ ghost → Asks 𝓤 H (𝓖 .A) c c′ ghost → Says 𝓤 H (𝓖 .A) c c′ ghost
@@ -155,5 +151,5 @@ module _ {n : ℕ} (En : Ending) (Qs : List (Param n)) where
   on-row 𝓤 H 𝓜 𝓖 𝓡 parts parts′ ghost sounds asks says γ own key f closed f-locals f-body core at-core at-index met =
       let c : Clauses 𝓤 callee = parts (𝓖 .A) (𝓜 .mem) (𝓡 .run) in let c′ : Clauses 𝓤 caller = parts′ (𝓖 .A) (𝓜 .mem) (𝓡 .run) in
       on-borrow T.the-row All (En .result) 𝓤 H 𝓜 𝓖 𝓡 c′ Sound sounds γ own f closed (λ W κs qs x a g are sound.
-      runs-it 𝓤 H (𝓖 .A) c c′ ghost W asks says κs qs x a g sound are (machine 𝓤 H 𝓜 𝓖 𝓡 γ) (𝓜 .mem) (𝓡 .run) (known 𝓤 H 𝓜 𝓖 𝓡 γ indexed.ended (indexed.clauses 𝓤 H (𝓖 .A) (𝓜 .mem) (𝓡 .run)) #index index-def.routine at-index (index-thm.met 𝓤 H 𝓜 𝓖 𝓡))
-      key (known 𝓤 H 𝓜 𝓖 𝓡 γ callee c key core at-core met) f f-locals f-body)
+      enters-as W _ _ f _ _ f-locals f-body (walk 𝓤 H (𝓖 .A) c c′ ghost W asks says κs qs x a g sound are (machine 𝓤 H 𝓜 𝓖 𝓡 γ) (𝓜 .mem) (𝓡 .run) (known 𝓤 H 𝓜 𝓖 𝓡 γ indexed.ended (indexed.clauses 𝓤 H (𝓖 .A) (𝓜 .mem) (𝓡 .run)) #index index-def.routine at-index (index-thm.met 𝓤 H 𝓜 𝓖 𝓡))
+      key (known 𝓤 H 𝓜 𝓖 𝓡 γ callee c key core at-core met)))

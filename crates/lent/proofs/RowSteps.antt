@@ -3,12 +3,14 @@
 --     row-copied       `let i = rows::index(n);` then the operands `t.count` and `t.bridges[i]`
 --     row-stored       `if done.number == 0 { t.bridges[i].held = done.row.held; t.bridges[i].supported = done.row.supported; }`
 --     stored           the table after these
--- Each opens the borrow and closes it. The lemmas assume `Given`.
+--     read-tys, copying, store-tys, storing        the locals of the two, and their MIR
+-- `row-copied` opens the borrow and closes it, and `row-stored` where it stores. The lemmas assume `Given`.
 use mathlib.Core.Path.{_≡_, refl, subst}
-use mathlib.Core.Bool.{Bool, true, false, not, cond as choose}
+use mathlib.Core.Bool.{Bool, true, false, cond as choose}
 use Prim.Native.Nat.{ℕ, suc, _*_, _+_, _<_}
 use mathlib.Core.List.{[], _∷_, List}
-use lib.Dec.{T as So, eqb}
+use lib.Dec.{eqb}
+use lib.Ieee.Bits.{is-true, is-false}
 use Rattle.walks.proofs.Kit.{URA, fullShare, Ty, w8, w64, tyBool, tyPtr, unsigned, mul, offset as shift, eq, Code, place, copy, int, deref, field, rvOpd, op2, addrOf, assign, call, skip, seq, cond, vint, vbool, vptr, id⊢, GName, Lft, Share, fat, froom, Memory, Routine, Heap, Env, Calls, Loops, Wp, afterSeq, Atoms, Fun, FmC, Given, Go, Item, Sq, Post, post, anyQ, runs, ‵, _$_, !, move, rewrite, Opds, look, look-raw, init, forget, stop, hop, fld, load, lit, of-opd, bin, addr, assigns, assigns-last, land, first, skips, exec, branches, whole, sub, look-in, store-in, SProp, Is, mem, Triple}
 use types.Mut.{open-ref, close-ref}
 use denote.Struct.Laws as LL
@@ -82,15 +84,6 @@ holds-is r y is-r is-y =
     let old = LL.owed B.the-type B′.the-laws r _ is-r in let new = LL.owed B.the-type B′.the-laws y _ is-y in
     LL.owes B.the-type B′.the-laws (withHolding r (holding y)) (old .0, (old .1 .0, (new .1 .1 .0, (new .1 .1 .1 .0, old .1 .1 .1 .1))))
 
--- how a test came out
-so-true : (t : Bool) → So t → t ≡ true
-so-true true h = refl
-so-true false h = absurd h
-
-so-false : (t : Bool) → So (not t) → t ≡ false
-so-false true h = absurd h
-so-false false h = refl
-
 -- the reference's local lies at t, and that of the index j, number i, at m
 module _ {M : Type 1} {𝓤 : URA M} {H : Heap 𝓤} {A : Atoms 𝓤} (W : Given 𝓤 H A) (C : Calls 𝓤 H) (Λ : Loops 𝓤 H) (E : Env 𝓤 H) (b o : ℕ) (i t m : ℕ) (at-t : Has 𝓤 H E 1 (ref-ty, t)) (at-i : Has 𝓤 H E i (word .ty, m)) where
   abbrev Both : ℕ → List (Item 𝓤) → List (Item 𝓤)
@@ -99,7 +92,6 @@ module _ {M : Type 1} {𝓤 : URA M} {H : Heap 𝓤} {A : Atoms 𝓤} (W : Given
   pub placed : (j : ℕ) → j < maxRows → (w p l k k′ : ℕ) → Has 𝓤 H E w (word .ty, l) → Has 𝓤 H E p (tyPtr, k) → Has 𝓤 H E (suc p) (tyPtr, k′) → {Γ : List (Item 𝓤)} {rest : Code} {Q : Post 𝓤 H}
       → Sq W (Both j (‵ (fat fullShare (word .ty) l 0 (vint w64 (j * size))) ∷ ‵ (fat fullShare tyPtr k 0 (vptr b (o + 0))) ∷ ‵ (fat fullShare tyPtr k′ 0 (vptr b (offset j o))) ∷ Γ)) (runs C Λ E rest Q)
       → Sq W (Both j (‵ (froom (word .ty) l 0) ∷ ‵ (froom tyPtr k 0) ∷ ‵ (froom tyPtr k′ 0) ∷ Γ)) (runs C Λ E (placing i w p rest) Q)
-  unfolding maxRows
   placed j lt w p l k k′ at-w at-p at-p′ go =
       assigns ! (bin ! (load ! (finds W at-i (stop !)) (look ! 1 refl)) (lit ! tt) (place-fits j lt)) (finds W at-w (stop !)) (init ! 2 refl (tt, place-fits j lt)) $
       assigns ! (addr ! (finds W at-t (hop ! (look ! 0 refl) (fld ! refl (stop !))))) (finds W at-p (stop !)) (init ! 3 refl (tt, tt)) $
@@ -170,7 +162,7 @@ module _ {M : Type 1} {𝓤 : URA M} {H : Heap 𝓤} {A : Atoms 𝓤} (W : Given
       pub row-stored : Is B.the-row (x .row) (bridge .val (x .row) ∷ []) → {Γ : List (Item 𝓤)} {rest : Code} → Sq W (with-room (stored h n (x .number) (x .row)) Γ) (runs C Λ E rest Q) → Sq W (with-room h Γ) (runs C Λ E (storing i d c rest) Q)
       row-stored is-y {Γ} {rest} go =
           assigns ! (bin ! (load ! (finds W at-d (fld ! refl (stop !))) (look-in ! 7 (sub ! 0 refl (whole !)))) (lit ! tt) tt) (finds W (at .0) (stop !)) (init ! 8 refl (tt, tt)) $ first ! $ branches ! (load ! (finds W (at .0) (stop !)) (look ! 8 refl))
-          (λ zero. stores is-y (ends true (so-true (eqb (x .number) 0) zero))) (λ more. skips ! $ exec ! C Λ E rest Q $ forget ! 8 refl $ ends false (so-false (eqb (x .number) 0) more))
+          (λ zero. stores is-y (ends true (is-true (eqb (x .number) 0) zero))) (λ more. skips ! $ exec ! C Λ E rest Q $ forget ! 8 refl $ ends false (is-false (eqb (x .number) 0) more))
         where
           -- the table that is left, by the test
           ends : (t : Bool) → eqb (x .number) 0 ≡ t → Sq W (with-room (choose t (withBridge h (index n) new) h) Γ) (runs C Λ E rest Q)

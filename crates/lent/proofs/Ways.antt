@@ -1,7 +1,8 @@
 -- The ways into a lent table (`Inside` of crates/walks), and the types of what lies there.
+--     bridge, session, bridge-number, ref-ty       the types
 --     count-in         the count
 --     row-look, row-put        row i, to be left as it is, or replaced
---     index            the place that a bridge number has in the array
+--     index            the place that a bridge number has in the array.        size, offset, place-fits      of a row there: its bytes, where it lies, and that this does not wrap
 -- The ways assume `Given`, the others nothing.
 use mathlib.Core.Path.{refl}
 use Prim.Native.Nat.{ℕ, _+_, _*_, _%_, _<_}

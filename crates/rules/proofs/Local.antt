@@ -76,7 +76,7 @@ present-is false n m e = cc
 
 -- ---- refusals 1 and 2 come first, whatever is asked
 
-absent-first : (bridges : ℕ) (s : SessionNumber) (n : BridgeNumber) (b : Bridge) (o : Operation) → leb bridges (n .0) ≡ true → numberAt bridges s n b o ≡ 1
+pub absent-first : (bridges : ℕ) (s : SessionNumber) (n : BridgeNumber) (b : Bridge) (o : Operation) → leb bridges (n .0) ≡ true → numberAt bridges s n b o ≡ 1
 absent-first bridges s n b (osc revision count uuid caps answer) e = rw e
 absent-first bridges s n b reset e = rw e
 absent-first bridges s n b report e = rw e

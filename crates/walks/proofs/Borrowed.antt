@@ -1,6 +1,6 @@
 -- A function of a `&mut R` and of any list of `Params`, whose result is plain data: how its walk begins and ends.
 --     Lent             the closed borrow, where h lies behind the reference
---     function         its signature
+--     function         its signature.        passed      the machine values that it is passed.        Entering      what its walk begins with
 --     exits            what is to be shown at the return, from the closed borrow, the tokens, what is said of the parameters' last values, and what is ensured
 --     on-borrow        it meets its contract, by a walk from the closed borrow, the tokens and what the parameters own
 -- `exits` assumes `Given`, `on-borrow` nothing.

@@ -3,6 +3,7 @@
 --     ends             Post, from the tokens, a result, what is said of the parameters' last values, and what is ensured of these
 --     came-back        as a step: the same taken apart, where a callee has returned
 --     meets            a run meets the contract, from a walk with the parameters' machine values written out and their relations in hand
+--     machine          what a program's calls and loops run on.        Clauses-of      a contract's clauses, as each crate's theorems have them
 --     walked           a function of the program meets its contract, by such a walk of its code.        known      a callee does, by the theorem of its own
 -- `ends`, `came-back` and `meets` assume `Given`, `walked` and `known` nothing.
 use mathlib.Core.Path.{_≡_}

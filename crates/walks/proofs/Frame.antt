@@ -2,7 +2,7 @@
 --     Blocks           where they lie.        locals, envs      the MIR's list of them, and what they are bound to
 --     Cells            their memory as one formula, by the values that they hold; the values not listed are not there.        filled      with a value in one of them
 --     stack            the same entry by entry, the last local in front.        spread, pack        from the one to the other
---     alloc-all, free-all      they are allocated, and freed.        pass-all      the first of them are passed values.        enters, leaves      a function of known locals is entered, and left
+--     alloc-all, free-all      they are allocated, and freed.        pass-all      the first of them are passed values of their types (`Typed`).        enters, leaves      a function of known locals is entered, and left.        enters-as      by its locals and body as they are
 --     Has, Bound       the environment has a local at a number, and locals of these types from a number on.        finds       a place in such a local
 --     Groups, group-locals, env-from, first-of         of groups of locals, one behind the other: where they lie, the MIR's list of them, the environment from one on, and the number of its first.        in-group        the environment has them there
 --     Cell             a cell among those of a formula: it can be taken out, and put back.        first-cell, later-cell, reads      it is the first, or a later one, and is read there
@@ -14,7 +14,7 @@ use mathlib.Core.List.{[], _∷_, _++_, List, map}
 use mathlib.Core.Option.{Option, none, some}
 use lib.Dec.{T as So}
 use lib.ListN.{getD}
-use Rattle.walks.proofs.Kit.{URA, fullShare, Ty, Fn, Local, local, valueLocal, place, Val, WT, hasTy, SProp, ent, sep, via, monoL, assoc∗, assoc′, Fml, ftrue, fsep, fat, froom, fdies, Heap, Env, Spot, Calls, Loops, WpFn, noLocal, walk, Atoms, sem, Given, Item, Goal, Sq, prop, allocs, params′, passes, runs, atRet, frees, Go, ‵, raw, _⊛_, mean, ⋆, nth, del, pull, unpull, _$_, _∵_, !, qed, move, drop, use1, use2, split, fsplit, fjoin, done, Reads, Finds, Walks, look, forget, init, enter, alloc1, alloc0, params1, pass1, pass0, free1, free0, nothing}
+use Rattle.walks.proofs.Kit.{URA, fullShare, Ty, Fn, Code, Local, local, valueLocal, place, Val, WT, hasTy, SProp, ent, sep, via, monoL, assoc∗, assoc′, Fml, ftrue, fsep, fat, froom, fdies, Heap, Env, Spot, Calls, Loops, WpFn, noLocal, walk, Atoms, sem, Given, Item, Goal, Sq, prop, allocs, params′, passes, runs, atRet, frees, Go, ‵, raw, _⊛_, mean, ⋆, nth, del, pull, unpull, _$_, _∵_, !, qed, move, drop, use1, use2, split, fsplit, fjoin, done, Reads, Finds, Walks, look, forget, init, enter, alloc1, alloc0, params1, pass1, pass0, free1, free0, nothing}
 use mir.Syntax.{Step as PStep}
 
 abbrev pub Blocks : List Ty → Type 0
@@ -166,6 +166,10 @@ module _ {M : Type 1} {𝓤 : URA M} {H : Heap 𝓤} {A : Atoms 𝓤} (W : Given
   pass-all (τ ∷ τs) (v ∷ vs) ok ls {Γ} E k =
       fsplit ! $ fsplit ! $ pass1 ! (init ! 0 refl (ok .0)) $ move ! (2 ∷ []) $
       pass-all τs vs (ok .1) (ls .1) {Γ = ‵ (fat fullShare τ (ls .0) 0 v) ∷ ‵ (fdies τ (ls .0)) ∷ Γ} E (move ! (1 ∷ 2 ∷ 0 ∷ []) $ fjoin ! $ fjoin ! $ k)
+
+  -- a function of these locals and this body is entered
+  pub enters-as : (C : Calls 𝓤 H) (Λ : Loops 𝓤 H) (f : Fn) (vs : List Val) (Post : Val → SProp 𝓤) {ls : List Local} {body : Code} → f .locals ≡ ls → f .body ≡ body → {Γ : List (Item 𝓤)} → Sq W Γ (allocs ls (λ E. params′ E vs (runs C Λ E body (atRet E Post)))) → Sq W Γ (prop (WpFn 𝓤 H C Λ f vs Post))
+  enters-as C Λ f vs Post f-locals f-body {Γ} k = enter ! C Λ f vs Post $ subst (λ (p : List Local × Code). Sq W Γ (allocs (p .0) (λ E. params′ E vs (runs C Λ E (p .1) (atRet E Post))))) (λ z. (sym f-locals z, sym f-body z)) k
 
   -- all of a function's locals
   alloc-these : (ls : List Local) {Γ : List (Item 𝓤)} {Kt : Env 𝓤 H → Goal 𝓤 H} → ((bs : Blocks (tysOf ls)) → Sq W (‵ (Cells (tysOf ls) bs []) ∷ Γ) (Kt (envs (tysOf ls) bs ++ []))) → Sq W Γ (allocs ls Kt)

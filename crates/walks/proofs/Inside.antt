@@ -2,7 +2,7 @@
 --     Inside           R at h lies at (b, o), with F at f in it at (b, p); with f′ there it is R at h′
 --     _then_           what is inside a part is inside the whole
 --     item-put         element i of an array is inside, to be replaced
---     record-look, record-put      element i of a field that is an array of structs is inside, to be left as it is or replaced: of the field's `look-at` or `put-at` (`Borrow/Struct/Behind.antt`)
+--     record-look, record-put      element i of a field that is an array of structs is inside, to be left as it is or replaced: of the field's `look-at` or `put-at` (borrow.Struct.Behind)
 --     take, put        as steps: the part is taken out, its machine value written out and its relation in hand; and put in its place
 -- The lemmas assume `Given`.
 use mathlib.Core.Path.{_≡_, refl, sym, _∙_, subst}

@@ -39,20 +39,20 @@ module _ {M : Type 1} {𝓤 : URA M} {H : Heap 𝓤} {A : Atoms 𝓤} (W : Given
     cell-rest (copied σ w) x τs es os τ l v c = c
     cell-rest (lent σ p n) x τs es os τ l v c = later-cell W _ (later-cell W _ c)
 
-    -- its further locals, filled
-    abbrev filled : (f : Form Y) → Y → (τs : List Ty) → Blocks (further f τs) → Fml
-    filled (copied τ v) x τs es = ftrue
-    filled (lent τ p c) x τs es =
+    -- its further locals, filled in
+    abbrev Further : (f : Form Y) → Y → (τs : List Ty) → Blocks (further f τs) → Fml
+    Further (copied τ v) x τs es = ftrue
+    Further (lent τ p c) x τs es =
         fsep (fsep (fat fullShare (tyRef erased mut τ) (es .0) 0 (vptr (p x .0) (p x .1))) (fdies (tyRef erased mut τ) (es .0)))
         (fsep (fat fullShare (sliceTy (tyRef erased mut τ)) (es .1 .0) 0 (sliceVal (p x) (c x))) (fdies (sliceTy (tyRef erased mut τ)) (es .1 .0)))
 
-    joins : (f : Form Y) (x : Y) (τs : List Ty) (es : Blocks (further f τs)) (os : List (Option Val)) {Γ : List (Item 𝓤)} {g : Goal 𝓤 H} → Sq W (‵ (Cells (further f τs) es (holding f x os)) ∷ Γ) g → Sq W (‵ (filled f x τs es) ∷ ‵ (Cells τs (rest-of f τs es) os) ∷ Γ) g
+    joins : (f : Form Y) (x : Y) (τs : List Ty) (es : Blocks (further f τs)) (os : List (Option Val)) {Γ : List (Item 𝓤)} {g : Goal 𝓤 H} → Sq W (‵ (Cells (further f τs) es (holding f x os)) ∷ Γ) g → Sq W (‵ (Further f x τs es) ∷ ‵ (Cells τs (rest-of f τs es) os) ∷ Γ) g
     joins (copied τ v) x τs es os k = drop ! $ k
     joins (lent τ p c) x τs es os k = fsplit ! $ move ! (1 ∷ 2 ∷ []) $ fjoin ! $ move ! (1 ∷ 0 ∷ []) $ fjoin ! $ k
 
     module _ (ℓ : Lifetime) where
       lends : (f : Form Y) (x : Y) → ((m : Lifetime) → So (hasTy (typeOf f m) (valOf f x)) × WT (valOf f x)) → (τs : List Ty) (es : Blocks (further f τs)) (k e l : ℕ) → Has 𝓤 H E k (typeOf f ℓ, l) → Bound 𝓤 H E e (further f τs) es
-          → {C : Calls 𝓤 H} {Λ : Loops 𝓤 H} {Q : Post 𝓤 H} {rest : Code} {Γ : List (Item 𝓤)} → Sq W (‵ (Cells τs (rest-of f τs es) []) ∷ ‵ (fat fullShare (typeOf f ℓ) l 0 (valOf f x)) ∷ ‵ (filled f x τs es) ∷ Γ) (runs C Λ E rest Q)
+          → {C : Calls 𝓤 H} {Λ : Loops 𝓤 H} {Q : Post 𝓤 H} {rest : Code} {Γ : List (Item 𝓤)} → Sq W (‵ (Cells τs (rest-of f τs es) []) ∷ ‵ (fat fullShare (typeOf f ℓ) l 0 (valOf f x)) ∷ ‵ (Further f x τs es) ∷ Γ) (runs C Λ E rest Q)
           → Sq W (‵ (Cells (further f τs) es []) ∷ ‵ (fat fullShare (typeOf f ℓ) l 0 (valOf f x)) ∷ Γ) (runs C Λ E (lend-one f k e rest) Q)
       lends (copied τ v) x ok τs es k e l at at-e go = nothing ! $ move ! (1 ∷ 2 ∷ 0 ∷ []) $ go
       lends (lent τ p c) x ok τs es k e l at at-e go =
@@ -78,7 +78,7 @@ module _ {M : Type 1} {𝓤 : URA M} {H : Heap 𝓤} {A : Atoms 𝓤} (W : Given
         move ! (1 ∷ []) $ fsplit ! $ fsplit ! $ move ! (3 ∷ 0 ∷ []) $
         lends E (X .name (P .lifetime)) (P .form) (a .0) (P .typed 𝓤 H A W (X .sub κs) (a .0) (are .0)) (more-tys X Ps) es k e (ls .0) (at .0) at-e {Γ = ‵ (fdies τ (ls .0)) ∷ ‵ (Cells (tys X Ps) (ls .1) (map some (vals X κs Ps (a .1)))) ∷ Γ} (
         move ! (0 ∷ 4 ∷ []) $ lend-all Ps (a .1) (are .1) (ls .1) (rest-of (P .form) (more-tys X Ps) es) (suc k) (next (P .form) e) (at .1) (bound-rest E (P .form) (more-tys X Ps) es e at-e)
-        {Γ = ‵ (fat fullShare τ (ls .0) 0 v) ∷ ‵ (filled E (P .form) (a .0) (more-tys X Ps) es) ∷ ‵ (fdies τ (ls .0)) ∷ Γ} (
+        {Γ = ‵ (fat fullShare τ (ls .0) 0 v) ∷ ‵ (Further E (P .form) (a .0) (more-tys X Ps) es) ∷ ‵ (fdies τ (ls .0)) ∷ Γ} (
         move ! (2 ∷ 4 ∷ []) $ fjoin ! $ move ! (0 ∷ 2 ∷ []) $ fjoin ! $ move ! (2 ∷ 1 ∷ []) $ joins E (P .form) (a .0) (more-tys X Ps) es (lents X κs Ps (a .1)) go))
 
     -- the parameters' cells are in F₁, and those of the further locals in F₂

@@ -2,7 +2,8 @@
 --     Form             how a parameter is handed on: its local is copied, or, of a `&mut` slice, lent on through two further locals
 --     Param n          a parameter's type at n lifetimes: `value`, `shared-slice` and `mut-slice` are the kinds.        Handing      what a caller must have of it, and has after the call
 --     View             a signature that has these lifetimes among its own: `inner`, a function's own, and `outer`, that of a function of a `&mut` besides, whose lifetime 0 is the reference's
---     slots, tys, vals, Owns, all-typed        of a list of these in such a signature: the slots, the MIR types of their locals, their machine values, what they own, and that the values are of the types
+--     slots, tys, all-typed    of a list of these in such a signature: the slots, the MIR types of their locals, and that machine values are of the types
+--     Args, Sound, vals, Owns, Lasts′        the arguments, that each is one of its type, their machine values, what they own, and their last values
 --     carry, vals-same, owns-same, lasts-back, lasts-same      from a signature to `inner`, and back: the machine values, what is owned, and what is said of last values stay
 -- Assumes nothing; the laws take `Given`.
 use mathlib.Core.Path.{_≡_, refl, ap}

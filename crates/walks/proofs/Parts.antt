@@ -4,18 +4,19 @@
 --     search, cut, function    the three signatures.        mir-locals, mir-body      the function's MIR. Of a function that is known, that it has these is `refl`
 --     hands-part       the function meets its contract, where the two meet theirs and the one follows from the others
 -- Assumes nothing: the walk takes `Given`, which `hands-part` has of the machine.
-use mathlib.Core.Path.{_≡_, refl, sym, ap, subst}
+use mathlib.Core.Path.{_≡_, refl, ap, subst}
 use mathlib.Core.Option.{some}
 use Prim.Native.Nat.{ℕ, zero, suc}
 use mathlib.Core.List.{[], _∷_, List, map}
 use lib.Dec.{T as So}
 use lib.ListN.{length}
-use Rattle.walks.proofs.Kit.{URA, fullShare, Ty, Name, Local, Fn, w8, tyInt, tyRef, erased, imm, named, Operand, Code, place, copy, field, aggregate, assign, call, seq, return, Val, Fits, vint, vstruct, ofList, WT, hasTy, SProp, ent, sep, emp, via, emp∗, comm∗, monoL, monoR, id⊢, Fml, ftrue, fsep, fat, fieldOf, Model, Routine, Routines, Heap, Env, WpFn, Tables, Entry, Atoms, sem, fact, Lfts, Shares, toks, GhostRules, Running, tables, Given, Go, Item, Sq, allocs, params′, runs, atRet, lands, nth, ‵, raw, _⊛_, ⋆, _$_, _∵_, !, qed, by, move, drop, rewrite, use0, use1, use2, split, join, fjoin, suffices, frame, done, agg, Reads, Opds, enter, look, init, forget, stop, fld, from, load, and-then, no-more, assigns, land, returns, alloc1, alloc0, params1, free1, free0, fmOf, RattleType, Is, shows, u8, yes, RefT, NamedLft, Slot, plain, shrSliceOf, namedLft, sliceTy, sliceVal, ShrSlice, slice-vals, shr-slice-tells, shr-slice-lawful, shr-slice-copy, owned, peeks, heard, nothing, only, calls-at, Ended, Clauses, Lasts, lasts, atExit, all, onEntry, Triple}
+use Rattle.walks.proofs.Kit.{URA, fullShare, Ty, Name, Local, Fn, w8, tyInt, tyRef, erased, imm, named, Operand, Code, place, copy, field, aggregate, assign, call, seq, return, Val, Fits, vint, vstruct, ofList, WT, hasTy, SProp, ent, sep, emp, via, emp∗, comm∗, monoL, monoR, id⊢, Fml, ftrue, fsep, fat, fieldOf, Model, Routine, Routines, Heap, Env, WpFn, Tables, Entry, Atoms, sem, fact, Lfts, Shares, toks, GhostRules, Running, tables, Given, Go, Item, Sq, allocs, params′, runs, atRet, lands, nth, ‵, raw, _⊛_, ⋆, _$_, _∵_, !, qed, by, move, drop, rewrite, use0, use1, use2, split, join, fjoin, suffices, frame, done, agg, Reads, Opds, look, init, forget, stop, fld, from, load, and-then, no-more, assigns, land, returns, alloc1, alloc0, params1, free1, free0, fmOf, RattleType, Is, shows, u8, RefT, NamedLft, plain, shrSliceOf, namedLft, sliceTy, sliceVal, ShrSlice, slice-vals, shr-slice-tells, shr-slice-lawful, shr-slice-copy, owned, peeks, heard, nothing, only, calls-at, Ended, Clauses, Lasts, lasts, atExit, onEntry, Triple}
 use denote.Plain.{uint-makes}
-use Rattle.walks.proofs.Frame.{Blocks, Cells, Cell, Groups, group-locals, env-from, first-of, in-group, Bound, finds, alloc-all, pass-all, free-all, first-cell, later-cell, reads}
+use Rattle.walks.proofs.Frame.{Blocks, Cells, Cell, Groups, group-locals, env-from, first-of, in-group, Bound, finds, alloc-all, pass-all, free-all, enters-as, first-cell, later-cell, reads}
 use Rattle.walks.proofs.Values.{Value, told}
 use Rattle.walks.proofs.Contracts.{Clauses-of, Contracted, Post, ends, came-back, machine, known, walked}
-use Rattle.walks.proofs.Params.{Param, value, shared-slice, inner, slots, tys, Args, spells, all-tell, spelt, vals, Owns, Sound, all-typed}
+use Rattle.walks.proofs.Calls.{callee}
+use Rattle.walks.proofs.Params.{Param, value, shared-slice, inner, tys, Args, spells, all-tell, spelt, vals, Owns, Sound, all-typed}
 
 -- the machine value of a number and a part
 abbrev pub pair : ℕ → RefT (List ℕ) → Val
@@ -63,17 +64,14 @@ module _ (m : ℕ) (Vs : List Value) (Pl : Placed) (Ho : Holding) where
   abbrev Slice : Lfts 1 → RattleType
   Slice κs = ShrSlice (named 0) (κs .0) u8
 
-  abbrev taking : List (Param 1) → Slot 1 → Ended
-  taking Qs r = record { signature = record { lifetimes = 1; outlives = []; params = slots (inner 1) Qs; result = r }; kept = all yes (slots (inner 1) Qs) }
-
   abbrev search : Ended
-  search = taking Ps (plain (λ _. Pl .value .row))
+  search = callee 1 Ps (plain (λ _. Pl .value .row))
 
   abbrev cut : Ended
-  cut = taking Cs (shrSliceOf (0 ∷ []) tt (plain (λ _. u8)))
+  cut = callee 1 Cs (shrSliceOf (0 ∷ []) tt (plain (λ _. u8)))
 
   abbrev function : Ended
-  function = taking Ps (plain (λ κs. Ho .row (namedLft 1 0 tt κs)))
+  function = callee 1 Ps (plain (λ κs. Ho .row (namedLft 1 0 tt κs)))
 
   abbrev gs : List (List Ty)
   gs = (Ho .ty ∷ []) ∷ tys (inner 1) Ps ∷ (Pl .value .ty ∷ part-ty ∷ []) ∷ []
@@ -96,20 +94,20 @@ module _ (m : ℕ) (Vs : List Value) (Pl : Placed) (Ho : Holding) where
   cut-args (suc k) κs a p = (a .0, cut-args k κs (a .1) p)
 
   -- what the slices own
-  abbrev Lent : (k : ℕ) (κs : Lfts 1) → Args (inner 1) κs (slices-and k (map value Vs)) → Fml
-  Lent zero κs a = ftrue
-  Lent (suc k) κs a = fsep (Slice κs .own (a .0) (slice-vals (a .0))) (Lent k κs (a .1))
+  abbrev Slices : (k : ℕ) (κs : Lfts 1) → Args (inner 1) κs (slices-and k (map value Vs)) → Fml
+  Slices zero κs a = ftrue
+  Slices (suc k) κs a = fsep (Slice κs .own (a .0) (slice-vals (a .0))) (Slices k κs (a .1))
 
   module _ {M : Type 1} {𝓤 : URA M} {H : Heap 𝓤} {A : Atoms 𝓤} (W : Given 𝓤 H A) (κs : Lfts 1) where
     -- it is had again beside what the parameters own, and with a place it is what the cut's parameters own
-    again : (k : ℕ) (a : Args (inner 1) κs (slices-and k (map value Vs))) → ent 𝓤 (sem 𝓤 H A (Owns (inner 1) κs (slices-and k (map value Vs)) a)) (sep 𝓤 (sem 𝓤 H A (Owns (inner 1) κs (slices-and k (map value Vs)) a)) (sem 𝓤 H A (Lent k κs a)))
+    again : (k : ℕ) (a : Args (inner 1) κs (slices-and k (map value Vs))) → ent 𝓤 (sem 𝓤 H A (Owns (inner 1) κs (slices-and k (map value Vs)) a)) (sep 𝓤 (sem 𝓤 H A (Owns (inner 1) κs (slices-and k (map value Vs)) a)) (sem 𝓤 H A (Slices k κs a)))
     again zero a = let X : SProp 𝓤 = sem 𝓤 H A (Owns (inner 1) κs (map value Vs) a) in via 𝓤 (sep 𝓤 (emp 𝓤) X) (emp∗ 𝓤 X) (comm∗ 𝓤 (emp 𝓤) X)
     again (suc k) a =
         let O = Slice κs .own (a .0) (slice-vals (a .0)) in let R = Owns (inner 1) κs (slices-and k (map value Vs)) (a .1) in
-        qed W (‵ O ∷ ‵ R ∷ []) ∵ use1 W (‵ O ⊛ ‵ O) (shr-slice-copy 𝓤 H A W (named 0) (κs .0) u8 .twice (a .0) (slice-vals (a .0))) $ split ! $ move ! (2 ∷ []) $ use1 W (‵ R ⊛ ‵ (Lent k κs (a .1))) (again k (a .1)) $ split ! $
+        qed W (‵ O ∷ ‵ R ∷ []) ∵ use1 W (‵ O ⊛ ‵ O) (shr-slice-copy 𝓤 H A W (named 0) (κs .0) u8 .twice (a .0) (slice-vals (a .0))) $ split ! $ move ! (2 ∷ []) $ use1 W (‵ R ⊛ ‵ (Slices k κs (a .1))) (again k (a .1)) $ split ! $
         move ! (2 ∷ 0 ∷ []) $ fjoin ! $ frame ! $ move ! (1 ∷ 0 ∷ []) $ done !
 
-    cut-owns : (k : ℕ) (a : Args (inner 1) κs (slices-and k (map value Vs))) (p : Pl .value .row .Denot) → Is (Pl .value .row) p (Pl .value .val p ∷ []) → ent 𝓤 (sem 𝓤 H A (Lent k κs a)) (sem 𝓤 H A (Owns (inner 1) κs (slices-and k (value (Pl .value) ∷ [])) (cut-args k κs a p)))
+    cut-owns : (k : ℕ) (a : Args (inner 1) κs (slices-and k (map value Vs))) (p : Pl .value .row .Denot) → Is (Pl .value .row) p (Pl .value .val p ∷ []) → ent 𝓤 (sem 𝓤 H A (Slices k κs a)) (sem 𝓤 H A (Owns (inner 1) κs (slices-and k (value (Pl .value) ∷ [])) (cut-args k κs a p)))
     cut-owns zero a p is = via 𝓤 (sep 𝓤 (emp 𝓤) (emp 𝓤)) (emp∗ 𝓤 (emp 𝓤)) (monoL 𝓤 (emp 𝓤) (Pl .value .makes 𝓤 H A W p _ is))
     cut-owns (suc k) a p is = monoR 𝓤 (sem 𝓤 H A (Slice κs .own (a .0) (slice-vals (a .0)))) (cut-owns k (a .1) p is)
 
@@ -164,8 +162,8 @@ module _ (m : ℕ) (Vs : List Value) (Pl : Placed) (Ho : Holding) where
       abbrev toₖ : Pl .value .row .Denot → Contracted 𝓤 H A cut cₖ .Ghost
       toₖ p = ((κs, qs, tt, cut-args m κs a p, spelt (inner 1) κs Cs (cut-args m κs a p)), ghostₖ κs (cut-args m κs a p))
 
-      asked : (p : Pl .value .row .Denot) → φ κs a p → Is (Pl .value .row) p (Pl .value .val p ∷ []) → ent 𝓤 (sep 𝓤 (toks 𝓤 A 1 κs qs) (sem 𝓤 H A (Lent m κs a))) (Contracted 𝓤 H A cut cₖ .pre (toₖ p))
-      asked p e is = qed W (Toks ∷ ‵ (Lent m κs a) ∷ []) ∵ move ! (1 ∷ []) $ use1 W (‵ (Owns (inner 1) κs Cs (cut-args m κs a p))) (cut-owns W κs m a p is) $ move ! (1 ∷ 0 ∷ []) $ join ! $ frame ! $ use0 W (raw (cₖ κs (cut-args m κs a p) .requires (ghostₖ κs (cut-args m κs a p)))) (fits-in κs a p e) $ done !
+      asked : (p : Pl .value .row .Denot) → φ κs a p → Is (Pl .value .row) p (Pl .value .val p ∷ []) → ent 𝓤 (sep 𝓤 (toks 𝓤 A 1 κs qs) (sem 𝓤 H A (Slices m κs a))) (Contracted 𝓤 H A cut cₖ .pre (toₖ p))
+      asked p e is = qed W (Toks ∷ ‵ (Slices m κs a) ∷ []) ∵ move ! (1 ∷ []) $ use1 W (‵ (Owns (inner 1) κs Cs (cut-args m κs a p))) (cut-owns W κs m a p is) $ move ! (1 ∷ 0 ∷ []) $ join ! $ frame ! $ use0 W (raw (cₖ κs (cut-args m κs a p) .requires (ghostₖ κs (cut-args m κs a p)))) (fits-in κs a p e) $ done !
 
       exits : (p : Pl .value .row .Denot) (r : RefT (List ℕ)) (ws : Lasts cut κs (cut-args m κs a p)) (ws′ : Lasts function κs a) → φ κs a p → Is u8 (Pl .number p) (vint w8 (Pl .number p) ∷ [])
           → ent 𝓤 (⋆ 𝓤 H A (Toks ∷ ‵ (Slice κs .own r (slice-vals r)) ∷ ‵ (lasts function κs a ws′) ∷ raw (cₖ κs (cut-args m κs a p) .ensures (ghostₖ κs (cut-args m κs a p)) r (atExit cut κs (cut-args m κs a p) ws)) ∷ [])) (End (pair (Pl .number p) r))
@@ -175,7 +173,7 @@ module _ (m : ℕ) (Vs : List Value) (Pl : Placed) (Ho : Holding) where
           suffices ! _ (ends 𝓤 H A function c κs qs a g W (Ho .made α n r) (pair n r) ws′) $ frame ! $ nothing ! $ move ! (1 ∷ 0 ∷ []) $ fjoin ! $ owned ! u8 (Is u8) (uint-makes 𝓤 H A W w8) n _ is $ fjoin ! $
           use1 W (‵ (Ho .row α .own (Ho .made α n r) (pair n r ∷ []))) (Ho .shut 𝓤 H A W α n r) $ frame ! $ frame ! $ use1 W (raw (c κs a .ensures g (Ho .made α n r) (atExit function κs a ws′))) (says κs a g p e r ws ws′) $ done !
 
-      walk : Sq W (raw (Contracted 𝓤 H A search cₛ .pre toₛ) ∷ ‵ (Lent m κs a) ∷ []) (allocs mir-locals (λ E. params′ E vs (runs (𝓣 .C) (𝓣 .Λ) E (mir-body #search #cut) (atRet E End))))
+      walk : Sq W (raw (Contracted 𝓤 H A search cₛ .pre toₛ) ∷ ‵ (Slices m κs a) ∷ []) (allocs mir-locals (λ E. params′ E vs (runs (𝓣 .C) (𝓣 .Λ) E (mir-body #search #cut) (atRet E End))))
       walk =
           alloc1 ! (λ l. alloc-all W P (λ ls. alloc1 ! (λ l₁. alloc1 ! (λ l₂. alloc0 ! $
           let bs : Groups gs = ((l, tt), (ls, ((l₁, (l₂, tt)), tt))) in let E : Env 𝓤 H = env-from gs bs 0 in let at-p = in-group 𝓤 H gs bs 1 in let at-l = in-group 𝓤 H gs bs 2 in
@@ -197,9 +195,8 @@ module _ (m : ℕ) (Vs : List Value) (Pl : Placed) (Ho : Holding) where
       runs-it : (f : Fn) → f .locals ≡ mir-locals → f .body ≡ mir-body #search #cut
           → ent 𝓤 (sep 𝓤 (onEntry 𝓤 H A (function .signature) κs qs a (spelt (inner 1) κs Ps a)) (cₛ κs a .requires (ghostₛ κs a))) (WpFn 𝓤 H (𝓣 .C) (𝓣 .Λ) f vs End)
       runs-it f f-locals f-body =
-          qed W ((Toks ⊛ ‵ (Owns (inner 1) κs Ps a)) ∷ raw (cₛ κs a .requires (ghostₛ κs a)) ∷ []) ∵ split ! $ move ! (1 ∷ []) $ use1 W (‵ (Owns (inner 1) κs Ps a) ⊛ ‵ (Lent m κs a)) (again W κs m a) $ split ! $ move ! (2 ∷ 0 ∷ []) $ join ! $ move ! (0 ∷ 2 ∷ []) $ join ! $
-          use1 W (raw (Contracted 𝓤 H A search cₛ .pre toₛ)) (id⊢ 𝓤 _) $ enter ! (𝓣 .C) (𝓣 .Λ) f vs End $
-          subst (λ (q : List Local × Code). Sq W (raw (Contracted 𝓤 H A search cₛ .pre toₛ) ∷ ‵ (Lent m κs a) ∷ []) (allocs (q .0) (λ E. params′ E vs (runs (𝓣 .C) (𝓣 .Λ) E (q .1) (atRet E End))))) (λ z. (sym f-locals z, sym f-body z)) walk
+          qed W ((Toks ⊛ ‵ (Owns (inner 1) κs Ps a)) ∷ raw (cₛ κs a .requires (ghostₛ κs a)) ∷ []) ∵ split ! $ move ! (1 ∷ []) $ use1 W (‵ (Owns (inner 1) κs Ps a) ⊛ ‵ (Slices m κs a)) (again W κs m a) $ split ! $ move ! (2 ∷ 0 ∷ []) $ join ! $ move ! (0 ∷ 2 ∷ []) $ join ! $
+          use1 W (raw (Contracted 𝓤 H A search cₛ .pre toₛ)) (id⊢ 𝓤 _) $ enters-as W (𝓣 .C) (𝓣 .Λ) f vs End f-locals f-body walk
 
   pub hands-part : {M : Type 1} (𝓤 : URA M) (H : Heap 𝓤) (𝓜 : Model 𝓤 H) (𝓖 : GhostRules 𝓤 H) (𝓡 : Running 𝓤 H 𝓜) (partsₛ : Clauses-of 𝓤 search) (partsₖ : Clauses-of 𝓤 cut) (parts : Clauses-of 𝓤 function) →
       let cₛ : Clauses 𝓤 search = partsₛ (𝓖 .A) (𝓜 .mem) (𝓡 .run) in let cₖ : Clauses 𝓤 cut = partsₖ (𝓖 .A) (𝓜 .mem) (𝓡 .run) in let c : Clauses 𝓤 function = parts (𝓖 .A) (𝓜 .mem) (𝓡 .run) in

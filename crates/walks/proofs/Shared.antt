@@ -1,6 +1,7 @@
 -- A function of values and shared slices (`Params`), whose result is plain data: how its walk begins and ends.
 --     Still            these parameters are seen at exit as they were passed: `refl` for each
---     Ending           what the walk is handed for its end: what is to be shown at the return, from the tokens, a result, and what is ensured of it
+--     Closing          what the walk is handed for its end: what is to be shown at the return, from the tokens, a result, and what is ensured of it
+--     Beginning        what it begins with
 --     on-shared        the function meets its contract, by a walk from the tokens, what the slices own, and what is required
 -- `on-shared` assumes nothing, the others `Given`.
 use mathlib.Core.Path.{_≡_, sym, subst}
@@ -33,11 +34,11 @@ module _ (n : ℕ) (Ps : List (Param n)) (D : Value) where
   T = callee n Ps (plain (λ _. D .row))
 
   module _ {M : Type 1} (𝓤 : URA M) (H : Heap 𝓤) (A : Atoms 𝓤) (c : Clauses 𝓤 T) (W : Given 𝓤 H A) (κs : Lfts n) (qs : Shares n) (a : Args (inner n) κs Ps) (g : c κs a .ghost) where
-    abbrev pub Ending : Type 1
-    Ending = (r : D .row .Denot) → Is (D .row) r (D .val r ∷ []) → ((ws : Lasts T κs a) → ent 𝓤 (emp 𝓤) (c κs a .ensures g r (atExit T κs a ws))) → Sq W (Asked {n = n} [] κs qs tt []) (prop (Post 𝓤 H A T c κs qs a g (D .val r)))
+    abbrev pub Closing : Type 1
+    Closing = (r : D .row .Denot) → Is (D .row) r (D .val r ∷ []) → ((ws : Lasts T κs a) → ent 𝓤 (emp 𝓤) (c κs a .ensures g r (atExit T κs a ws))) → Sq W (Asked {n = n} [] κs qs tt []) (prop (Post 𝓤 H A T c κs qs a g (D .val r)))
 
-    ending : Still Ps → Ending
-    ending still r is said =
+    closing : Still Ps → Closing
+    closing still r is said =
         let (ws, left) = all-left 𝓤 H A κs Ps still a in
         record {
           prf = via 𝓤 _ (⊢++ 𝓤 H A (tokens n κs qs) []) (via 𝓤 _ (fst∗ 𝓤 (⋆ 𝓤 H A (tokens n κs qs)) (emp 𝓤)) (via 𝓤 _ (tokens-in 𝓤 H A n κs qs) (
@@ -55,8 +56,8 @@ module _ (n : ℕ) (Ps : List (Param n)) (D : Value) where
         (via 𝓤 _ (mono∗ 𝓤 (tokens-out 𝓤 H A n κs qs) (via 𝓤 _ (monoL 𝓤 R (all-give 𝓤 H A W κs Ps a)) (++⊢ 𝓤 H A (needed κs Ps a) (raw R ∷ [])))) (++⊢ 𝓤 H A (tokens n κs qs) (needed κs Ps a ++ raw R ∷ [])))
 
   pub on-shared : {M : Type 1} (𝓤 : URA M) (H : Heap 𝓤) (𝓜 : Model 𝓤 H) (𝓖 : GhostRules 𝓤 H) (𝓡 : Running 𝓤 H 𝓜) (c : Clauses 𝓤 T) → Still Ps → (γ : Routines) (own : Name) (f : Fn) → Entry 𝓤 H (tables 𝓤 H 𝓜 𝓡 γ .C) (tables 𝓤 H 𝓜 𝓡 γ .Λ) own f
-      → ((W : Given 𝓤 H (𝓖 .A)) (κs : Lfts n) (qs : Shares n) (a : Args (inner n) κs Ps) (g : c κs a .ghost) → Sound (inner n) κs Ps a → Ending 𝓤 H (𝓖 .A) c W κs qs a g
+      → ((W : Given 𝓤 H (𝓖 .A)) (κs : Lfts n) (qs : Shares n) (a : Args (inner n) κs Ps) (g : c κs a .ghost) → Sound (inner n) κs Ps a → Closing 𝓤 H (𝓖 .A) c W κs qs a g
       → Sq W (Beginning 𝓤 H (𝓖 .A) c W κs qs a g) (prop (WpFn 𝓤 H (machine 𝓤 H 𝓜 𝓖 𝓡 γ .C) (machine 𝓤 H 𝓜 𝓖 𝓡 γ .Λ) f (vals (inner n) κs Ps a) (Post 𝓤 H (𝓖 .A) T c κs qs a g))))
       → Triple 𝓤 (tables 𝓤 H 𝓜 𝓡 γ .C own) (Contracted 𝓤 H (𝓖 .A) T c)
   on-shared 𝓤 H 𝓜 𝓖 𝓡 c still γ own f closed walk =
-      walked 𝓤 H 𝓜 𝓖 𝓡 γ T c own f closed (λ κs. spells (inner n) κs Ps) (λ κs. all-tell (inner n) κs Ps) (λ W κs qs bounds a g are. via 𝓤 _ (beginning 𝓤 H (𝓖 .A) c W κs qs a g) (walk W κs qs a g are (ending 𝓤 H (𝓖 .A) c W κs qs a g still) .prf))
+      walked 𝓤 H 𝓜 𝓖 𝓡 γ T c own f closed (λ κs. spells (inner n) κs Ps) (λ κs. all-tell (inner n) κs Ps) (λ W κs qs bounds a g are. via 𝓤 _ (beginning 𝓤 H (𝓖 .A) c W κs qs a g) (walk W κs qs a g are (closing 𝓤 H (𝓖 .A) c W κs qs a g still) .prf))

@@ -1,6 +1,6 @@
 -- A loop's turn: a pass through its body.
 --     past             what follows n statements in their list: the part of a turn that the generated MIR has under no name
---     Nearer           a turn ends at a larger place, of places up to n
+--     Nearer           a turn ends at a larger place, of places up to n.        Nearer-wf      there are no more turns than places
 --     turned           where a turn ends: at another state of the loop, nearer to the end, or the loop is left and the statements behind it run
 -- Assumes nothing.
 use Prim.Native.Nat.{ℕ, zero, suc, _-_, _<_}

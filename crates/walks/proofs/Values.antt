@@ -1,5 +1,5 @@
 -- Plain data: a value is one machine value, and owns only facts.
---     Value            such a type: `number`, `truth`, `struct` and `array` are the kinds
+--     Value            such a type: `number`, `truth`, `struct` and `array` are the kinds, `word` the number that lengths are
 --     told             as a step: of a value that came back, the machine value is written out and the relation in hand, and what it owns is let go
 -- Assumes nothing; the laws and the step take `Given`.
 use mathlib.Core.Path.{sym, ap, subst}

@@ -20,7 +20,7 @@ address-requires : tie.Need-address-requires
 unfolding maxRows
 address-requires c κs =
     let a = c .before .before in
-    index-sound (a .args .t1) maxRows (a .pre .few) (a .args .s) (a .args .n) (address (a .args .bus) (a .args .device) (a .args .function) (a .args .offset) (a .args .width)) (a .pre)
+    index-sound (a .args .t1) maxRows (a .pre .few) (a .args .n) (a .pre)
 
 returns : tie.Need-returns
 unfolding maxRows

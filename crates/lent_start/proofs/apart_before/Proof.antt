@@ -14,7 +14,7 @@ use mathlib.Core.List.{List, [], _∷_, _++_}
 use lib.Dec.{ltb→lt, nltb→le, lit<}
 use lib.ListN.{length, take, getD}
 use lib.Seq.{take-suc}
-use Rattle.walks.proofs.Kit.{URA, fullShare, Ty, named, imm, tyBool, tyPtr, tyRef, Val, vbool, SProp, emp, id⊢, Lft, Share, flft, fat, Model, Heap, Out, Env, Tables, factI, GhostRules, Running, Given, Item, Sq, prop, ‵, runs, anyQ, atRet, _$_, !, move, keep, rewrite, whole, sub, look-in, look, look-raw, store, init, forget, stop, hop, fld, from, load, lit, true-lit, of-opd, bin, and-then, no-more, assigns, assigns-last, land, first, skips, jumps, blocks, branches, returns, exec, again, loops, Is, pointee, RefT, sliceTy, sliceVal, Room, heard}
+use Rattle.walks.proofs.Kit.{URA, fullShare, Ty, tyBool, tyPtr, Val, vbool, SProp, emp, id⊢, Lft, Share, flft, fat, Model, Heap, Out, Env, Tables, factI, GhostRules, Running, Given, Item, Sq, prop, ‵, runs, anyQ, atRet, _$_, !, move, keep, rewrite, whole, sub, look-in, look, look-raw, store, init, forget, stop, hop, fld, from, load, lit, true-lit, of-opd, bin, and-then, no-more, assigns, assigns-last, land, first, skips, jumps, blocks, branches, returns, exec, again, loops, Is, RefT, sliceVal, Room, heard}
 use prog.Wp.{afterTurn}
 use Rattle.rules.specs.Lists.{every}
 use Rattle.rules.specs.Start.{rowsApart}
@@ -29,7 +29,7 @@ use Rattle.walks.proofs.Frame.{Blocks, envs, stack, filled, those, enters, leav
 use Rattle.walks.proofs.Turns.{past, Nearer, Nearer-wf, turned}
 use Rattle.walks.proofs.Values.{truth, word}
 use Rattle.walks.proofs.Contracts.{machine}
-use Rattle.walks.proofs.Params.{Param, value, shared-slice}
+use Rattle.walks.proofs.Params.{Param, value, shared-slice, inner, tys, all-typed}
 use Rattle.walks.proofs.Calls.{then, invokes}
 use Rattle.walks.proofs.Shared.{on-shared}
 use Rattle.lent_start.proofs.RowWalk.{row, size, offset-fits, Rows, row-out, row-back}
@@ -43,7 +43,7 @@ abbrev Ps : List (Param 1)
 Ps = shared-slice 0 tt R.the-row ∷ value word ∷ value row ∷ []
 
 abbrev τs : List Ty
-τs = sliceTy (tyRef (named 0) imm (pointee (R.the-row .written))) ∷ word .ty ∷ row .ty ∷ tyBool ∷ word .ty ∷ tyBool ∷ word .ty ∷ tyPtr ∷ row .ty ∷ []
+τs = tys (inner 1) Ps ++ tyBool ∷ word .ty ∷ tyBool ∷ word .ty ∷ tyPtr ∷ row .ty ∷ []
 
 module _ {M : Type 1} (𝓤 : URA M) (H : Heap 𝓤) (𝓜 : Model 𝓤 H) (𝓖 : GhostRules 𝓤 H) (𝓡 : Running 𝓤 H 𝓜) (W : Given 𝓤 H (𝓖 .A)) (κ : Lft) (q : Share) (y : RefT (List BridgeRow)) (room : Room R.the-row (length (y .now)))
     (i : ℕ) (inside : i ≤ length (y .now)) (r : BridgeRow) (is-r : Is R.the-row r (row .val r ∷ [])) where
@@ -121,5 +121,5 @@ pub apart-before-spec : {M : Type 1} → stated.statement M
 unfolding code.routine
 apart-before-spec 𝓤 H 𝓜 𝓖 𝓡 =
     on-shared 1 Ps truth 𝓤 H 𝓜 𝓖 𝓡 (own.clauses 𝓤 H (𝓖 .A) (𝓜 .mem) (𝓡 .run)) (refl, (refl, (refl, tt))) code.env key.name code.function (code.unfolded 𝓤 H 𝓜 𝓡) (λ W κs qs (y, (i, (r, _))) g (is-y, (is-i, (is-r, _))) ends.
-    move ! (2 ∷ []) $ heard ! (i ≤ length (y .now)) (λ inside. enters W _ _ code.function _ _ tyBool τs refl ((tt, (tt, (record { fits = is-y .0 .1 .0 }, tt))), (word .typed 𝓤 H (𝓖 .A) W i is-i, (row .typed 𝓤 H (𝓖 .A) W r is-r, tt)))
+    move ! (2 ∷ []) $ heard ! (i ≤ length (y .now)) (λ inside. enters W _ _ code.function _ _ tyBool τs refl (all-typed (inner 1) κs 𝓤 H (𝓖 .A) W Ps (y, (i, (r, tt))) (is-y, (is-i, (is-r, tt))))
     (walk 𝓤 H 𝓜 𝓖 𝓡 W (κs .0) (qs .0) y (is-y .0 .1) i inside r is-r _ (λ t e. ends t refl (λ ws. factI 𝓤 _ (emp 𝓤) e)))))

@@ -15,7 +15,7 @@ use native.Mathlib.Omega.{arith}
 use mathlib.Core.List.{List, [], _∷_, _++_}
 use lib.Dec.{ltb→lt, nltb→le, lit<}
 use lib.ListN.{length, take, getD, set}
-use Rattle.walks.proofs.Kit.{fullShare, URA, Ty, named, imm, w8, tyBool, tyPtr, tyRef, Operand, seq, call, place, return, Val, SProp, emp, id⊢, Lft, Share, flft, Model, Heap, Out, Env, atReturn, Tables, factI, GhostRules, Running, Given, Item, Post as Ends, post, Sq, Go, prop, ‵, runs, anyQ, atRet, _$_, !, move, keep, whole, sub, look-in, Opds, look, look-raw, store, store-raw, init, forget, stop, hop, fld, from, load, lit, of-opd, bin, addr, and-then, no-more, assigns, assigns-last, land, first as front, skips, jumps, blocks, branches, returns-within, exec, again, loops, u8, Is, mem, pointee, RefT, sliceTy, sliceVal, ShrSlice, slice-vals}
+use Rattle.walks.proofs.Kit.{fullShare, URA, Ty, named, w8, tyBool, tyPtr, Operand, seq, call, place, return, Val, SProp, emp, id⊢, Lft, Share, flft, Model, Heap, Out, Env, atReturn, Tables, factI, GhostRules, Running, Given, Item, Post as Ends, post, Sq, Go, prop, ‵, runs, anyQ, atRet, _$_, !, move, keep, whole, sub, look-in, Opds, look, look-raw, store, store-raw, init, forget, stop, hop, fld, from, load, lit, of-opd, bin, addr, and-then, no-more, assigns, assigns-last, land, first as front, skips, jumps, blocks, branches, returns-within, exec, again, loops, u8, Is, mem, RefT, sliceVal, ShrSlice, slice-vals}
 use prog.Wp.{returns as returned, afterTurn}
 use denote.Struct.Laws as LL
 use borrow.Table.Elements.{at-mul}
@@ -55,7 +55,7 @@ use Rattle.walks.proofs.Turns.{past, Nearer, Nearer-wf, turned}
 use Rattle.walks.proofs.Values.{Value, number, truth, struct, array, word}
 use Rattle.walks.proofs.Contracts.{machine}
 use Rattle.walks.proofs.Inside.{Inside, item-put, take as take-out, put}
-use Rattle.walks.proofs.Params.{Param, value, shared-slice}
+use Rattle.walks.proofs.Params.{Param, value, shared-slice, inner, tys, all-typed}
 use Rattle.walks.proofs.Calls.{then, invokes}
 use Rattle.walks.proofs.Shared.{on-shared}
 use Rattle.lent_start.proofs.RowWalk.{row, answer, size, offset-fits, nonzero, is-zero, Rows, row-out, row-back}
@@ -86,7 +86,7 @@ Ps = shared-slice 0 tt u8 ∷ shared-slice 1 tt R.the-row ∷ []
 
 abbrev τs : List Ty
 τs =
-    sliceTy (tyRef (named 0) imm (byte .ty)) ∷ sliceTy (tyRef (named 1) imm (pointee (R.the-row .written))) ∷ byte .ty ∷ places .ty ∷ word .ty ∷ row .ty ∷ admitted .ty ∷ word .ty ∷ tyBool ∷ places .ty ∷ word .ty ∷ tyBool ∷ tyPtr ∷ row .ty ∷ tyPtr ∷ tyPtr ∷ []
+    tys (inner 2) Ps ++ byte .ty ∷ places .ty ∷ word .ty ∷ row .ty ∷ admitted .ty ∷ word .ty ∷ tyBool ∷ places .ty ∷ word .ty ∷ tyBool ∷ tyPtr ∷ row .ty ∷ tyPtr ∷ tyPtr ∷ []
 
 -- the place of bridge i does not wrap
 place-fits : (i : ℕ) → i < maxRows → i * mem B.the-row .size < 2 ^ 64
@@ -187,7 +187,7 @@ module _ {M : Type 1} (𝓤 : URA M) (H : Heap 𝓤) (𝓜 : Model 𝓤 H) (𝓖
           onward zero′ is′ = record { i = z .i + 1; l = set (z .l) (z .i) (a .bridge); is = is′; reached = reached-more lent (z .i) (z .l) (z .reached) left (a .number) (a .bridge) (e .0) (e .1) zero′ }
 
           fill : a .number ≡ 0 → Sq W (With (held (judged a))) (runs (𝓣 .C) (𝓣 .Λ) En (past 11 body.turn-1) (anyQ (Turned z)))
-          unfolding afterTurn onward maxRows
+          unfolding afterTurn onward
           fill zero′ =
               assigns ! (bin ! (load ! (from ! (stop !)) (look ! 26 refl)) (lit ! tt) (record { fits = place-fits (z .i) in-table })) (from ! (stop !)) (init ! 14 refl (tt, record { fits = place-fits (z .i) in-table })) $
               assigns ! (addr ! (from ! (stop !))) (from ! (stop !)) (init ! 6 refl (tt, tt)) $
@@ -203,7 +203,7 @@ module _ {M : Type 1} (𝓤 : URA M) (H : Heap 𝓤) (𝓜 : Model 𝓤 H) (𝓖
 
         -- the row's place, and the row; it is compared with the rows before it, and judged
         judge : Sq W (At z) (runs (𝓣 .C) (𝓣 .Λ) En (past 3 body.turn-1) (anyQ (Turned z)))
-        unfolding afterTurn maxRows
+        unfolding afterTurn
         judge =
             assigns ! (bin ! (load ! (from ! (stop !)) (look ! 26 refl)) (lit ! tt) (record { fits = row-fits })) (from ! (stop !)) (init ! 14 refl (tt, record { fits = row-fits })) $
             assigns ! (bin ! (load ! (from ! (fld ! refl (stop !))) (look-in ! 32 (sub ! 0 refl (whole !)))) (load ! (from ! (stop !)) (look ! 14 refl)) tt) (from ! (stop !)) (init ! 10 refl (tt, tt)) $
@@ -229,7 +229,7 @@ module _ {M : Type 1} (𝓤 : URA M) (H : Heap 𝓤) (𝓜 : Model 𝓤 H) (𝓖
           leave (atRet En Post) refl s is-s (rw f (reached-all lent (z .i) (z .l) (z .reached) over)) (none ∷ some (places .val (z .l)) ∷ some (word .val (z .i)) ∷ []))
 
       turns : Sq W (At z) (runs (𝓣 .C) (𝓣 .Λ) En body.turn-1 (anyQ (Turned z)))
-      unfolding afterTurn maxRows
+      unfolding afterTurn
       turns =
           assigns ! (of-opd ! (load ! (from ! (fld ! refl (stop !))) (look-in ! 32 (sub ! 1 refl (whole !))))) (from ! (stop !)) (init ! 14 refl (tt, record { fits = is-y .0 .1 .0 })) $
           assigns ! (bin ! (load ! (from ! (stop !)) (look ! 26 refl)) (load ! (from ! (stop !)) (look ! 14 refl)) tt) (from ! (stop !)) (init ! 12 refl (tt, tt)) $ forget ! 14 refl $ front ! $ branches ! (load ! (from ! (stop !)) (look ! 12 refl))
@@ -247,7 +247,6 @@ module _ {M : Type 1} (𝓤 : URA M) (H : Heap 𝓤) (𝓜 : Model 𝓤 H) (𝓖
 
     -- what start refuses before its first row
     walk : Sq W (stack (answer .ty ∷ τs) ls (held []) (‵ (flft κ₀ q₀) ∷ ‵ (ShrSlice (named 0) κ₀ u8 .own m (slice-vals m)) ∷ ‵ (flft κ q) ∷ ‵ (Rows κ y) ∷ [])) (runs (𝓣 .C) (𝓣 .Λ) En body.t-1 (atRet En Post))
-    unfolding maxRows
     walk =
         move ! (those 34 4) $ assigns ! (of-opd ! (load ! (from ! (fld ! refl (stop !))) (look-in ! 32 (sub ! 1 refl (whole !))))) (from ! (stop !)) (init ! 20 refl (tt, record { fits = is-y .0 .1 .0 })) $
         invokes 𝓤 H 𝓜 𝓖 𝓡 code.env 1 (shared-slice 0 tt u8 ∷ value word ∷ []) byte (first.clauses 𝓤 H) (κ₀, tt) (q₀, tt) (m, (length ys, tt)) (λ n. n ≡ firstNumber (m .now) (length ys)) _ (then _ _) ! first-def.routine code.calls-start·first-number (first-thm.met 𝓤 H 𝓜 𝓖 𝓡) (is-m, ((refl, is-y .0 .1 .0), tt)) tt (id⊢ 𝓤 _) (λ n ws. id⊢ 𝓤 _)
@@ -260,5 +259,5 @@ pub start-spec : {M : Type 1} → stated.statement M
 unfolding code.routine maxRows
 start-spec 𝓤 H 𝓜 𝓖 𝓡 =
     on-shared 2 Ps answer 𝓤 H 𝓜 𝓖 𝓡 (own.clauses 𝓤 H (𝓖 .A) (𝓜 .mem) (𝓡 .run)) (refl, (refl, tt)) code.env key.name code.function (code.unfolded 𝓤 H 𝓜 𝓡) (λ W κs qs (m, (y, _)) g (is-m, (is-y, _)) ends.
-    keep ! (0 ∷ 2 ∷ 1 ∷ 3 ∷ []) $ enters W _ _ code.function _ _ (answer .ty) τs refl ((tt, (tt, (record { fits = is-m .0 .1 .0 }, tt))), ((tt, (tt, (record { fits = is-y .0 .1 .0 }, tt))), tt))
+    keep ! (0 ∷ 2 ∷ 1 ∷ 3 ∷ []) $ enters W _ _ code.function _ _ (answer .ty) τs refl (all-typed (inner 2) κs 𝓤 H (𝓖 .A) W Ps (m, (y, tt)) (is-m, (is-y, tt)))
     (walk 𝓤 H 𝓜 𝓖 𝓡 W (κs .0) (κs .1 .0) (qs .0) (qs .1 .0) m y is-m is-y _ (λ s is-s e. ends s is-s (λ ws. factI 𝓤 _ (emp 𝓤) e))))

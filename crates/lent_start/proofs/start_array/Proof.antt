@@ -9,7 +9,7 @@ use mathlib.Core.List.{List, [], _∷_, _++_}
 use mathlib.Core.Option.{none, some}
 use lib.ListN.{length, take}
 use lib.Seq.{length-take-le}
-use Rattle.walks.proofs.Kit.{URA, fullShare, Ty, named, erased, imm, w8, tyInt, tyRef, Val, vptr, SProp, emp, id⊢, Lft, Share, flft, fat, Model, Heap, Env, factI, GhostRules, Running, Given, Sq, prop, ‵, runs, atRet, _$_, !, move, keep, rewrite, agg, look, init, stop, from, load, of-opd, addr, and-then, no-more, assigns, land, returns, u8, Is, pointee, RefT, sliceTy, sliceVal, ShrSlice, Room, slice-vals}
+use Rattle.walks.proofs.Kit.{URA, fullShare, Ty, named, erased, imm, tyRef, Val, vptr, SProp, emp, id⊢, Lft, Share, flft, fat, Model, Heap, Env, factI, GhostRules, Running, Given, Sq, prop, ‵, runs, atRet, _$_, !, move, keep, rewrite, agg, look, init, stop, from, load, of-opd, addr, and-then, no-more, assigns, land, returns, u8, Is, pointee, RefT, sliceTy, sliceVal, ShrSlice, Room, slice-vals}
 use Rattle.rules.specs.Limits.{maxRows}
 use Rattle.rules.specs.declared.BridgeRow.{BridgeRow}
 use Rattle.start.specs.declared.Started.{Started}
@@ -18,7 +18,7 @@ use Rattle.rules.proofs.BridgeRow as R
 use Rattle.walks.proofs.Frame.{Blocks, envs, stack, those, enters, leaves}
 use Rattle.walks.proofs.Values.{Value, array, word}
 use Rattle.walks.proofs.Contracts.{machine}
-use Rattle.walks.proofs.Params.{Param, value, shared-slice}
+use Rattle.walks.proofs.Params.{Param, value, shared-slice, inner, tys, all-typed}
 use Rattle.walks.proofs.Calls.{then, invokes}
 use Rattle.walks.proofs.Shared.{on-shared}
 use Rattle.lent_start.proofs.RowWalk.{row, answer}
@@ -48,7 +48,7 @@ abbrev rows-ty : Ty
 rows-ty = sliceTy (tyRef erased imm (pointee (R.the-row .written)))
 
 abbrev τs : List Ty
-τs = sliceTy (tyRef (named 0) imm (tyInt w8)) ∷ list .ty ∷ word .ty ∷ list .ty ∷ word .ty ∷ tyRef erased imm (pointee (list .row .written)) ∷ rows-ty ∷ []
+τs = tys (inner 1) Ps ++ list .ty ∷ word .ty ∷ tyRef erased imm (pointee (list .row .written)) ∷ rows-ty ∷ []
 
 -- the first n of the array's rows have room
 front-room : (n k : ℕ) → k ≡ n → n ≤ listRows → Room R.the-row k
@@ -75,7 +75,6 @@ module _ {M : Type 1} (𝓤 : URA M) (H : Heap 𝓤) (𝓜 : Model 𝓤 H) (𝓖
   same n f = rw f (take-min xs count listRows (is .1 .0 .1))
 
   walk : Sq W (stack (answer .ty ∷ τs) ls (none ∷ some (sliceVal (m .ptr) (length (m .now))) ∷ some (list .val xs) ∷ some (word .val count) ∷ []) (‵ (flft κ q) ∷ ‵ (ShrSlice (named 0) κ u8 .own m (slice-vals m)) ∷ [])) (runs (machine 𝓤 H 𝓜 𝓖 𝓡 code.env .C) (machine 𝓤 H 𝓜 𝓖 𝓡 code.env .Λ) En (code.function .body) (atRet En Post))
-  unfolding maxRows
   walk =
       -- [the token; mcfg; _7; …; _0; …]
       move ! (16 ∷ 17 ∷ []) $ assigns ! (of-opd ! (load ! (from ! (stop !)) (look ! 12 refl))) (from ! (stop !)) (init ! 8 refl (list .typed 𝓤 H (𝓖 .A) W xs is)) $
@@ -99,5 +98,5 @@ pub start-array-spec : {M : Type 1} → stated.statement M
 unfolding code.routine maxRows
 start-array-spec 𝓤 H 𝓜 𝓖 𝓡 =
     on-shared 1 Ps answer 𝓤 H 𝓜 𝓖 𝓡 (own.clauses 𝓤 H (𝓖 .A) (𝓜 .mem) (𝓡 .run)) (refl, (refl, (refl, tt))) code.env key.name code.function (code.unfolded 𝓤 H 𝓜 𝓡) (λ W κs qs (m, (xs, (count, _))) g (is-m, (is, (is-count, _))) ends.
-    keep ! (0 ∷ 1 ∷ []) $ enters W _ _ code.function _ _ (answer .ty) τs refl ((tt, (tt, (record { fits = is-m .0 .1 .0 }, tt))), (list .typed 𝓤 H (𝓖 .A) W xs is, (word .typed 𝓤 H (𝓖 .A) W count is-count, tt)))
+    keep ! (0 ∷ 1 ∷ []) $ enters W _ _ code.function _ _ (answer .ty) τs refl (all-typed (inner 1) κs 𝓤 H (𝓖 .A) W Ps (m, (xs, (count, tt))) (is-m, (is, (is-count, tt))))
     (walk 𝓤 H 𝓜 𝓖 𝓡 W (κs .0) (qs .0) m xs count is-m is is-count _ (λ s is-s e. ends s is-s (λ ws. factI 𝓤 _ (emp 𝓤) e))))

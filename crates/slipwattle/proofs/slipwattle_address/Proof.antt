@@ -1,12 +1,8 @@
 -- `slipwattle::slipwattle_address` meets its contract. Assumes nothing.
 use mathlib.Core.Path.{refl}
 use mathlib.Core.List.{[], _∷_, List}
-use base.Logic.{id⊢}
-use mir.Syntax.{w8, w16}
-use contract.Monad.{factI}
-use Rattle.rules.specs.Limits.{maxRows}
+use Rattle.walks.proofs.Kit.{w8, w16, id⊢}
 use Rattle.rules.specs.Calls.{address, addressed}
-use Rattle.bridges.proofs.AtIndex.{index-sound}
 use Rattle.rows.proofs.Addressed as D
 use Rattle.rows.proofs.Addressed.Laws as D′
 use Rattle.rows.proofs.address as core
@@ -16,7 +12,7 @@ use Rattle.walks.proofs.Values.{number, struct}
 use Rattle.walks.proofs.Params.{Param, value}
 use Rattle.lent.proofs.Endings.{handed}
 use Rattle.lent.proofs.OnRow.{on-row}
-use Rattle.slipwattle.proofs.Done.{as-read}
+use Rattle.slipwattle.proofs.Done.{row-sound, as-read}
 use Rattle.slipwattle.proofs.slipwattle_address.Key as key
 use Rattle.slipwattle.proofs.slipwattle_address as own
 use Rattle.slipwattle.proofs.slipwattle_address.Statement as stated
@@ -27,8 +23,8 @@ abbrev Ps : List (Param 0)
 Ps = value (number w8) ∷ value (number w8) ∷ value (number w8) ∷ value (number w16) ∷ value (number w8) ∷ []
 
 pub slipwattle-address-spec : {M : Type 1} → stated.statement M
-unfolding code.routine maxRows
+unfolding code.routine
 slipwattle-address-spec 𝓤 H 𝓜 𝓖 𝓡 =
-    on-row (handed (struct D.the-type D′.the-laws D′.the-plain)) Ps 𝓤 H 𝓜 𝓖 𝓡 (core.clauses 𝓤 H) (own.clauses 𝓤 H) (λ κs x. tt) (λ κs x a g. id⊢ 𝓤 _) (λ κs x a sound. factI 𝓤 _ _ (index-sound (x .now) maxRows (sound .few) (a .0) (a .1 .0) (address 0 0 0 0 0) sound))
+    on-row (handed (struct D.the-type D′.the-laws D′.the-plain)) Ps 𝓤 H 𝓜 𝓖 𝓡 (core.clauses 𝓤 H) (own.clauses 𝓤 H) (λ κs x. tt) (λ κs x a g. id⊢ 𝓤 _) (λ κs x (s, (n, _)) sound. row-sound 𝓤 (x .now) sound n)
     (λ κs x (s, (n, (bus, (device, (function, (offset, (width, _))))))) g sound d ws. as-read 𝓤 (x .now) sound s n (address bus device function offset width) (λ b. refl) (d .number) (addressed (d .address)) [])
     code.env key.name core-def.name code.function (code.unfolded 𝓤 H 𝓜 𝓡) refl refl core-def.routine code.calls-rows·address code.calls-rows·index (core-thm.met 𝓤 H 𝓜 𝓖 𝓡)

@@ -1,6 +1,6 @@
 -- `slipwattle::slipwattle_find_record` meets its contract: what the search gives, as it crosses; zeros beside a refusal.
 use Prim.Native.Nat.{ℕ, zero, suc}
-use mathlib.Core.Path.{_≡_, refl, ap, _∙_}
+use mathlib.Core.Path.{_≡_, ap, _∙_}
 use mathlib.Core.Bool.{false, not}
 use mathlib.Core.List.{List}
 use mathlib.Core.Option.{Option, none, some}

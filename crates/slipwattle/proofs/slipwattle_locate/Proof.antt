@@ -39,7 +39,7 @@ use Rattle.walks.proofs.Turns.{past, Nearer, Nearer-wf, turned}
 use Rattle.walks.proofs.Values.{Value, struct, word}
 use Rattle.walks.proofs.Inside.{take, put}
 use Rattle.walks.proofs.Contracts.{machine}
-use Rattle.walks.proofs.Params.{Param, value}
+use Rattle.walks.proofs.Params.{Param, value, outer, tys, all-typed}
 use Rattle.walks.proofs.Calls.{then, last, invokes}
 use Rattle.walks.proofs.Borrowed.{Lent, on-borrow, exits}
 use Rattle.lent.proofs.Ways.{bridge, session, ref-ty, size, place-fits, count-in, row-look}
@@ -60,7 +60,7 @@ abbrev Ps : List (Param 0)
 Ps = value session ∷ value word ∷ []
 
 abbrev τs : List Ty
-τs = ref-ty ∷ session .ty ∷ word .ty ∷ word .ty ∷ search .ty ∷ word .ty ∷ tyBool ∷ word .ty ∷ tyPtr ∷ tyPtr ∷ bridge .ty ∷ []
+τs = ref-ty ∷ tys (outer 0) Ps ++ word .ty ∷ search .ty ∷ word .ty ∷ tyBool ∷ word .ty ∷ tyPtr ∷ tyPtr ∷ bridge .ty ∷ []
 
 record State (h : Table) (s : SessionNumber) (a : ℕ) : Type 0 where
   p : Search
@@ -156,7 +156,7 @@ unfolding code.routine
 slipwattle-locate-spec 𝓤 H 𝓜 𝓖 𝓡 =
     let c = own.clauses 𝓤 H (𝓖 .A) (𝓜 .mem) (𝓡 .run) in
     on-borrow T.the-row Ps answer 𝓤 H 𝓜 𝓖 𝓡 c Sound (λ κs x a g. id⊢ 𝓤 _) code.env key.name code.function (code.unfolded 𝓤 H 𝓜 𝓡) (λ W κs qs x (s, (a, _)) g (is-s, (is-a, _)) sound.
-    keep ! (0 ∷ 1 ∷ 2 ∷ []) $ enters W _ _ code.function _ _ (answer .ty) τs refl ((tt, tt), (session .typed 𝓤 H (𝓖 .A) W s is-s, (word .typed 𝓤 H (𝓖 .A) W a is-a, tt)))
+    keep ! (0 ∷ 1 ∷ 2 ∷ []) $ enters W _ _ code.function _ _ (answer .ty) τs refl ((tt, tt), all-typed (outer 0) κs 𝓤 H (𝓖 .A) W Ps (s, (a, tt)) (is-s, (is-a, tt)))
     (walk 𝓤 H 𝓜 𝓖 𝓡 W (κs .0) (qs .0) (x .ptr .0) (x .ptr .1) (x .name) (x .now) s a is-s is-a sound _ (λ f is e.
     -- [the tokens; the parameters' last values; what is ensured; the borrow]
     use0 W (raw (c κs (x, (s, (a, tt))) .ensures g f (atExit own.ended κs (x, (s, (a, tt))) (x .now, (tt, (tt, tt)))))) (factI 𝓤 _ (emp 𝓤) (so (x .now) s a f e)) $ nothing ! $ nothing ! $ fjoin ! $ nothing ! $ fjoin ! $ use0 W (raw (emp 𝓤)) (id⊢ 𝓤 _) $

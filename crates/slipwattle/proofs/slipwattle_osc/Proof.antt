@@ -1,9 +1,7 @@
 -- `slipwattle::slipwattle_osc` meets its contract. Assumes nothing.
 use mathlib.Core.Path.{refl}
 use mathlib.Core.List.{[], _∷_, List}
-use base.Logic.{id⊢}
-use mir.Syntax.{w32}
-use denote.Builtin.{u8}
+use Rattle.walks.proofs.Kit.{w32, id⊢, u8}
 use Rattle.rules.specs.Calls.{osc, nothing}
 use Rattle.rows.proofs.osc as core
 use Rattle.rows.proofs.osc.Symbol as core-def

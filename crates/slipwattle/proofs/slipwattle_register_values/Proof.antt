@@ -1,8 +1,7 @@
 -- `slipwattle::slipwattle_register_values` meets its contract. Assumes nothing.
 use mathlib.Core.Path.{refl}
 use mathlib.Core.List.{[], _∷_, List}
-use base.Logic.{id⊢}
-use denote.Builtin.{u8, u32}
+use Rattle.walks.proofs.Kit.{id⊢, u8, u32}
 use Rattle.rules.specs.Calls.{registerValues, values}
 use Rattle.hpx.proofs.Values as D
 use Rattle.hpx.proofs.Values.Laws as D′

@@ -1,7 +1,7 @@
 -- `slipwattle::slipwattle_report` meets its contract. Assumes nothing.
 use mathlib.Core.Path.{refl}
 use mathlib.Core.List.{[], List}
-use base.Logic.{id⊢}
+use Rattle.walks.proofs.Kit.{id⊢}
 use Rattle.rules.specs.Calls.{report, reported}
 use Rattle.rows.proofs.Reported as D
 use Rattle.rows.proofs.Reported.Laws as D′
@@ -26,5 +26,5 @@ pub slipwattle-report-spec : {M : Type 1} → stated.statement M
 unfolding code.routine
 slipwattle-report-spec 𝓤 H 𝓜 𝓖 𝓡 =
     on-row (handed (struct D.the-type D′.the-laws D′.the-plain)) Ps 𝓤 H 𝓜 𝓖 𝓡 (core.clauses 𝓤 H) (own.clauses 𝓤 H) (λ κs x. tt) (λ κs x a g. id⊢ 𝓤 _) (λ κs x a sound. id⊢ 𝓤 _)
-    (λ κs x a g sound d ws. as-read 𝓤 (x .now) sound (a .0) (a .1 .0) report (λ b. refl) (d .number) (reported (d .holding)) [])
+    (λ κs x (s, (n, _)) g sound d ws. as-read 𝓤 (x .now) sound s n report (λ b. refl) (d .number) (reported (d .holding)) [])
     code.env key.name core-def.name code.function (code.unfolded 𝓤 H 𝓜 𝓡) refl refl core-def.routine code.calls-rows·report code.calls-rows·index (core-thm.met 𝓤 H 𝓜 𝓖 𝓡)

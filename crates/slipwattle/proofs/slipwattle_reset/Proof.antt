@@ -1,7 +1,7 @@
 -- `slipwattle::slipwattle_reset` meets its contract. Assumes nothing.
 use mathlib.Core.Path.{refl}
 use mathlib.Core.List.{[], List}
-use base.Logic.{id⊢}
+use Rattle.walks.proofs.Kit.{id⊢}
 use Rattle.rules.specs.Calls.{reset, nothing}
 use Rattle.rows.proofs.reset as core
 use Rattle.rows.proofs.reset.Symbol as core-def
@@ -23,5 +23,5 @@ pub slipwattle-reset-spec : {M : Type 1} → stated.statement M
 unfolding code.routine
 slipwattle-reset-spec 𝓤 H 𝓜 𝓖 𝓡 =
     on-row kept Ps 𝓤 H 𝓜 𝓖 𝓡 (core.clauses 𝓤 H) (own.clauses 𝓤 H) (λ κs x. tt) (λ κs x a g. id⊢ 𝓤 _) (λ κs x a sound. id⊢ 𝓤 _)
-    (λ κs x a g sound d ws. as-done 𝓤 (x .now) sound (a .0) (a .1 .0) reset d nothing [])
+    (λ κs x (s, (n, _)) g sound d ws. as-done 𝓤 (x .now) sound s n reset d nothing [])
     code.env key.name core-def.name code.function (code.unfolded 𝓤 H 𝓜 𝓡) refl refl core-def.routine code.calls-rows·reset code.calls-rows·index (core-thm.met 𝓤 H 𝓜 𝓖 𝓡)
