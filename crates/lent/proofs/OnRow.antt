@@ -143,13 +143,15 @@ module _ {n : ℕ} (En : Ending) (Qs : List (Param n)) where
             move ! (12 ∷ 13 ∷ 10 ∷ 14 ∷ 9 ∷ 15 ∷ 8 ∷ 16 ∷ 11 ∷ 17 ∷ []) $ step (pack W read-tys rs read) $ free-all W read-tys rs read (env-from gs bs 4) (
             move ! (7 ∷ []) $ free-all W Z es (lents (outer n) κs All a) (env-from gs bs 5) (free-all W (En .lasts) xs [] [] (free0 ! $ by ! (exits d (ws .1 .1) is′)))))))))))))))))))))
 
+  -- `contract` is the row's, as its module has it: that it is this one is `refl`, which is cheaper than to compare the theorems
   pub on-row : {M : Type 1} (𝓤 : URA M) (H : Heap 𝓤) (𝓜 : Model 𝓤 H) (𝓖 : GhostRules 𝓤 H) (𝓡 : Running 𝓤 H 𝓜) (parts : Clauses-of 𝓤 callee) (parts′ : Clauses-of 𝓤 caller) →
       let c : Clauses 𝓤 callee = parts (𝓖 .A) (𝓜 .mem) (𝓡 .run) in let c′ : Clauses 𝓤 caller = parts′ (𝓖 .A) (𝓜 .mem) (𝓡 .run) in
       (ghost : (κs : Lfts n) (y : Args (inner n) κs RowAll) → c κs y .ghost) → Sounds 𝓤 H (𝓖 .A) c c′ ghost → Asks 𝓤 H (𝓖 .A) c c′ ghost → Says 𝓤 H (𝓖 .A) c c′ ghost
       → (γ : Routines) (own key : Name) (f : Fn) → Entry 𝓤 H (tables 𝓤 H 𝓜 𝓡 γ .C) (tables 𝓤 H 𝓜 𝓡 γ .Λ) own f → f .locals ≡ mir-locals → f .body ≡ mir-body key
-      → (core : Routine) → γ key ≡ core → γ #index ≡ index-def.routine → Triple 𝓤 (𝓡 .run core) (Contracted 𝓤 H (𝓖 .A) callee c) → Triple 𝓤 (tables 𝓤 H 𝓜 𝓡 γ .C own) (Contracted 𝓤 H (𝓖 .A) caller c′)
-  on-row 𝓤 H 𝓜 𝓖 𝓡 parts parts′ ghost sounds asks says γ own key f closed f-locals f-body core at-core at-index met =
+      → (core : Routine) → γ key ≡ core → γ #index ≡ index-def.routine → (contract : (T : Ended) × Clauses-of 𝓤 T) → contract ≡ (callee, parts)
+      → Triple 𝓤 (𝓡 .run core) (Contracted 𝓤 H (𝓖 .A) (contract .0) (contract .1 (𝓖 .A) (𝓜 .mem) (𝓡 .run))) → Triple 𝓤 (tables 𝓤 H 𝓜 𝓡 γ .C own) (Contracted 𝓤 H (𝓖 .A) caller c′)
+  on-row 𝓤 H 𝓜 𝓖 𝓡 parts parts′ ghost sounds asks says γ own key f closed f-locals f-body core at-core at-index contract same met =
       let c : Clauses 𝓤 callee = parts (𝓖 .A) (𝓜 .mem) (𝓡 .run) in let c′ : Clauses 𝓤 caller = parts′ (𝓖 .A) (𝓜 .mem) (𝓡 .run) in
       on-borrow T.the-row All (En .result) 𝓤 H 𝓜 𝓖 𝓡 c′ Sound sounds γ own f closed (λ W κs qs x a g are sound.
       enters-as W _ _ f _ _ f-locals f-body (walk 𝓤 H (𝓖 .A) c c′ ghost W asks says κs qs x a g sound are (machine 𝓤 H 𝓜 𝓖 𝓡 γ) (𝓜 .mem) (𝓡 .run) (known 𝓤 H 𝓜 𝓖 𝓡 γ indexed.ended (indexed.clauses 𝓤 H (𝓖 .A) (𝓜 .mem) (𝓡 .run)) #index index-def.routine at-index (index-thm.met 𝓤 H 𝓜 𝓖 𝓡))
-      key (known 𝓤 H 𝓜 𝓖 𝓡 γ callee c key core at-core met)))
+      key (known 𝓤 H 𝓜 𝓖 𝓡 γ callee c key core at-core (subst (λ (p : (T : Ended) × Clauses-of 𝓤 T). Triple 𝓤 (𝓡 .run core) (Contracted 𝓤 H (𝓖 .A) (p .0) (p .1 (𝓖 .A) (𝓜 .mem) (𝓡 .run)))) same met))))

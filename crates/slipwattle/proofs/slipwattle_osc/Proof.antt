@@ -25,4 +25,4 @@ unfolding code.routine
 slipwattle-osc-spec 𝓤 H 𝓜 𝓖 𝓡 =
     on-row kept Ps 𝓤 H 𝓜 𝓖 𝓡 (core.clauses 𝓤 H) (own.clauses 𝓤 H) (λ κs x. tt) (λ κs x a g. id⊢ 𝓤 _) (λ κs x a sound. id⊢ 𝓤 _)
     (λ κs x (s, (n, (revision, (count, (uuid, (caps, (answer, _))))))) g sound d (_, (_, (_, (_, (_, (_, (left, _))))))). as-done 𝓤 (x .now) sound s n (osc revision count (uuid .now) (caps .now) (answer .now)) d nothing (uuid .now ∷ caps .now ∷ left ∷ []))
-    code.env key.name core-def.name code.function (code.unfolded 𝓤 H 𝓜 𝓡) refl refl core-def.routine code.calls-rows·osc code.calls-rows·index (core-thm.met 𝓤 H 𝓜 𝓖 𝓡)
+    code.env key.name core-def.name code.function (code.unfolded 𝓤 H 𝓜 𝓡) refl refl core-def.routine code.calls-rows·osc code.calls-rows·index (core.ended, core.clauses 𝓤 H) refl (core-thm.met 𝓤 H 𝓜 𝓖 𝓡)

@@ -27,4 +27,4 @@ unfolding code.routine
 slipwattle-register-values-spec 𝓤 H 𝓜 𝓖 𝓡 =
     on-row (handed (struct D.the-type D′.the-laws D′.the-plain)) Ps 𝓤 H 𝓜 𝓖 𝓡 (core.clauses 𝓤 H) (own.clauses 𝓤 H) (λ κs x. tt) (λ κs x a g. id⊢ 𝓤 _) (λ κs x a sound. id⊢ 𝓤 _)
     (λ κs x (s, (n, (slot, (block, (current, _))))) g sound d ws. as-read 𝓤 (x .now) sound s n (registerValues (slot .now) (block .now) (current .now)) (λ b. refl) (d .number) (values (d .values)) (slot .now ∷ block .now ∷ current .now ∷ []))
-    code.env key.name core-def.name code.function (code.unfolded 𝓤 H 𝓜 𝓡) refl refl core-def.routine code.calls-rows·register-values code.calls-rows·index (core-thm.met 𝓤 H 𝓜 𝓖 𝓡)
+    code.env key.name core-def.name code.function (code.unfolded 𝓤 H 𝓜 𝓡) refl refl core-def.routine code.calls-rows·register-values code.calls-rows·index (core.ended, core.clauses 𝓤 H) refl (core-thm.met 𝓤 H 𝓜 𝓖 𝓡)

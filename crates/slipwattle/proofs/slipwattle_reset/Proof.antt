@@ -24,4 +24,4 @@ unfolding code.routine
 slipwattle-reset-spec 𝓤 H 𝓜 𝓖 𝓡 =
     on-row kept Ps 𝓤 H 𝓜 𝓖 𝓡 (core.clauses 𝓤 H) (own.clauses 𝓤 H) (λ κs x. tt) (λ κs x a g. id⊢ 𝓤 _) (λ κs x a sound. id⊢ 𝓤 _)
     (λ κs x (s, (n, _)) g sound d ws. as-done 𝓤 (x .now) sound s n reset d nothing [])
-    code.env key.name core-def.name code.function (code.unfolded 𝓤 H 𝓜 𝓡) refl refl core-def.routine code.calls-rows·reset code.calls-rows·index (core-thm.met 𝓤 H 𝓜 𝓖 𝓡)
+    code.env key.name core-def.name code.function (code.unfolded 𝓤 H 𝓜 𝓡) refl refl core-def.routine code.calls-rows·reset code.calls-rows·index (core.ended, core.clauses 𝓤 H) refl (core-thm.met 𝓤 H 𝓜 𝓖 𝓡)
