@@ -63,7 +63,7 @@ fn end() {
 fn begin(permitted: u32) -> Table
     ensures { λ r. ⌜ Sound r ⌝ }
 {
-    let rows = [fixtures::row(1, 1, 255, permitted); start::LIST_ROWS];
+    let rows = [fixtures::row(1, 1, 255, permitted); start_array::LIST_ROWS];
     let started = fixtures::start(BASE, 1, 255, 1, rows, 1);
     started.table
 }

@@ -40,12 +40,12 @@ module _ {A : Type 0} (d : A) where
   padded-length (suc n) [] = ap suc (padded-length n [])
   padded-length (suc n) (x ∷ l) = ap suc (padded-length n l)
 
-  pub padded-at : (n : ℕ) (l : List A) (i : ℕ) → i < n → getD (padded d n l) i d ≡ getD l i d
-  padded-at zero l i h = absurd (not-suc-le-zero h)
-  padded-at (suc n) [] zero h = refl
-  padded-at (suc n) [] (suc i) h = padded-at n [] i (le-of-suc-le-suc h)
-  padded-at (suc n) (x ∷ l) zero h = refl
-  padded-at (suc n) (x ∷ l) (suc i) h = padded-at n l i (le-of-suc-le-suc h)
+  -- the list stands first, whatever fills it up
+  pub padded-in : (z : A) (n : ℕ) (l : List A) (i : ℕ) → i < length l → i < n → getD (padded d n l) i z ≡ getD l i z
+  padded-in z zero l i k h = absurd (not-suc-le-zero h)
+  padded-in z (suc n) [] i k h = absurd (not-suc-le-zero k)
+  padded-in z (suc n) (x ∷ l) zero k h = refl
+  padded-in z (suc n) (x ∷ l) (suc i) k h = padded-in z n l i (le-of-suc-le-suc k) (le-of-suc-le-suc h)
 
 pub every-and-pair : EveryAndPair
 every-and-pair A d l = (λ p. (every-at d p l, at-every d p l), λ p. (pairwise-at d p l, at-pairwise d p l))

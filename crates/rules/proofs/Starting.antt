@@ -15,16 +15,15 @@ use Rattle.rules.specs.Limits.{maxRows}
 use Rattle.rules.specs.Lists.{every, pairwise, padded, isNone}
 use Rattle.rules.specs.Refusals.{_if_}
 use Rattle.rules.specs.Mcfg.{entries, busStart, busEnd, busesApart, entrySound, shareNoByte, mcfgSound}
-use Rattle.rules.specs.Tables.{nothingHeld, holding, noBridge, bridgeAt}
+use Rattle.rules.specs.Tables.{nothingHeld, holding, noBridge, unused, bridgeAt}
 use Rattle.rules.specs.Place.{inWindow}
 use Rattle.rules.specs.Start.{StartInput, inside, entryOf, rowSound, rowsApart, rowsSound, startNumber, bridgeOf, tableOf, startBy, startTable, Sound}
 use Rattle.rules.specs.declared.Bridge.{Bridge}
-use Rattle.rules.specs.declared.BridgeKind.the-variants.{Express}
 use Rattle.rules.specs.declared.BridgeRow.{BridgeRow}
 use Rattle.rules.specs.declared.Table.{Table}
 use Rattle.rules.proofs.Tests.{and-true, and-l, and-r, or-true}
 use Rattle.rules.proofs.Refusals.{clear}
-use Rattle.rules.proofs.Lists.{every-at, pairwise-at, padded-length, padded-at, map-at, Stands, stands}
+use Rattle.rules.proofs.Lists.{every-at, pairwise-at, padded-length, padded-in, map-at, Stands, stands}
 use Rattle.rules.specs.declared.Entry.{Entry}
 
 -- ---- rows inside entries
@@ -80,8 +79,9 @@ two-entries r q e f i j h x a b =
 noEntry : Entry
 noEntry = record { base = 0; segment = 0; «start_bus» = 0; «end_bus» = 0 }
 
-noRow : BridgeRow
-noRow = record { owner = record { 0 = 0 }; segment = 0; «first_bus» = 0; «last_bus» = 0; kind = Express; permitted = 0 }
+-- what stands past the end of a list of rows
+abbrev pub noRow : BridgeRow
+noRow = record { permitted = 0; segment = 0; owner = record { 0 = 0 }; «first_bus» = 0; «last_bus» = 0; kind = 0 }
 
 module _ (es : List Entry) (rows : List BridgeRow) (se : every entrySound es ≡ true) (pe : pairwise shareNoByte es ≡ true)
     (few : length rows ≤ maxRows) (sr : every (rowSound es) rows ≡ true) (pr : pairwise rowsApart rows ≡ true) where
@@ -98,7 +98,7 @@ module _ (es : List Entry) (rows : List BridgeRow) (se : every entrySound es ≡
   nth i = getD rows i noRow
 
   bridge-is : (i : ℕ) → i < n → bridgeAt made i ≡ bridgeOf es (nth i)
-  bridge-is i h = padded-at noBridge maxRows (map (bridgeOf es) rows) i (omega arith) ∙ map-at (bridgeOf es) rows i noRow noBridge h
+  bridge-is i h = padded-in unused noBridge maxRows (map (bridgeOf es) rows) i (rw count-is h) (omega arith) ∙ map-at (bridgeOf es) rows i noRow noBridge h
 
   lies : (i : ℕ) → i < n → Stands noEntry (inside (nth i)) es
   lies i h =
@@ -143,7 +143,7 @@ module _ (es : List Entry) (rows : List BridgeRow) (se : every entrySound es ≡
 
   made-sound : Sound made
   made-sound = record {
-    full-length = padded-length noBridge maxRows (map (bridgeOf es) rows);
+    full-length = padded-length unused maxRows (map (bridgeOf es) rows);
     few = rw count-is few;
     windows-apart = λ i j h k ne x a b. sides i j (rw count-is at h) (rw count-is at k) ne x a b (ltb i j) refl;
     window-ends = λ i h. ending i (rw count-is at h);
@@ -164,7 +164,7 @@ module _ (es : List Entry) (rows : List BridgeRow) (se : every entrySound es ≡
 
 no-bridges : Sound (tableOf [])
 no-bridges = record {
-  full-length = padded-length noBridge maxRows [];
+  full-length = padded-length unused maxRows [];
   few = omega arith;
   windows-apart = λ i j h k ne x a b. absurd (not-suc-le-zero h);
   window-ends = λ i h. absurd (not-suc-le-zero h);
@@ -188,7 +188,7 @@ start-sound x = go (startNumber x) refl
         made-sound es (x .rows) (search (and-l, and-r)) (search (and-l, and-r)) (leb-true (length (x .rows)) maxRows f) (search (and-l, and-r)) (search (and-l, and-r))
     go (suc k) e = no-bridges
 
-padded-holds : (es : List Entry) (n : ℕ) (rows : List BridgeRow) (i : ℕ) → holding (getD (padded noBridge n (map (bridgeOf es) rows)) i noBridge) ≡ nothingHeld
+padded-holds : (es : List Entry) (n : ℕ) (rows : List BridgeRow) (i : ℕ) → holding (getD (padded unused n (map (bridgeOf es) rows)) i noBridge) ≡ nothingHeld
 padded-holds es zero rows i = refl
 padded-holds es (suc n) [] zero = refl
 padded-holds es (suc n) [] (suc i) = padded-holds es n [] i

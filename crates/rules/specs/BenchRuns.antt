@@ -3,14 +3,13 @@ use Prim.Native.Nat.{ℕ, zero, suc}
 use mathlib.Core.Bool.{true, false}
 use mathlib.Core.List.{List, [], _∷_, _++_}
 use lib.ListN.{take, set, replicate}
-use Rattle.rules.specs.Place.{placeBad}
-use Rattle.rules.specs.Start.{StartInput, startNumber, startTable}
+use Rattle.rules.specs.Place.{placeBad, busOutside}
+use Rattle.rules.specs.Start.{StartInput, express, conventional, startNumber, bridgeOf, startTable}
 use Rattle.rules.specs.Osc.{uuidBytes}
 use Rattle.rules.specs.Records.{findRecord}
 use Rattle.rules.specs.Calls.{osc, reset, report, address, registerValues, Call, on, locate, nothing, reported, addressed, located, values, outcome, outcomes}
 use Rattle.rules.specs.BenchSheet.{Line, _gives_, AllHold, oscOn}
-use Rattle.rules.specs.declared.BridgeKind.{BridgeKind}
-use Rattle.rules.specs.declared.BridgeKind.the-variants.{Express, Conventional}
+use Rattle.rules.specs.declared.Bridge.{Bridge}
 use Rattle.rules.specs.declared.BridgeNumber.{BridgeNumber}
 use Rattle.rules.specs.declared.BridgeRow.{BridgeRow}
 use Rattle.rules.specs.declared.SessionNumber.{SessionNumber}
@@ -35,20 +34,20 @@ sharedByte =
     ∷ 0 ∷ 0 ∷ 0 ∷ 0 ∷ 0 ∷ 0 ∷ 0 ∷ 0x0F ∷ 0 ∷ 0 ∷ 0 ∷ 0 ∷ 0 ∷ 0 ∷ 0xF0 ∷ 0xE0
     ∷ 0 ∷ 0 ∷ 0 ∷ 0 ∷ 1 ∷ 0 ∷ 0 ∷ 0 ∷ 0 ∷ 0 ∷ 0 ∷ 0 ∷ []
 
-abbrev pub row : BridgeKind → (owner first last permitted : ℕ) → BridgeRow
-row kind owner first last permitted = record { owner = record { 0 = owner }; segment = 0; «first_bus» = first; «last_bus» = last; kind = kind; permitted = permitted }
+abbrev pub row : (kind owner first last permitted : ℕ) → BridgeRow
+row kind owner first last permitted = record { permitted = permitted; segment = 0; owner = record { 0 = owner }; «first_bus» = first; «last_bus» = last; kind = kind }
 
 abbrev pub starting : List ℕ → List BridgeRow → StartInput
 starting m rows = record { mcfg = m; rows = rows }
 
 -- a class bridge of session 3 and a plant bridge of session 5
 abbrev pub lesson : StartInput
-lesson = starting oneEntry (row Express 3 0 15 0x1F ∷ row Express 5 128 159 0x1F ∷ [])
+lesson = starting oneEntry (row express 3 0 15 0x1F ∷ row express 5 128 159 0x1F ∷ [])
 
 -- n rows of one bus each
 abbrev pub oneBusRows : ℕ → List BridgeRow
 oneBusRows zero = []
-oneBusRows (suc n) = row Express 3 n n 0 ∷ oneBusRows n
+oneBusRows (suc n) = row express 3 n n 0 ∷ oneBusRows n
 
 abbrev pub starts : List Line
 starts =
@@ -68,14 +67,19 @@ starts =
     -- a reserved byte, with the sum and without it
     ∷ (startNumber (starting (set (set oneEntry 36 1) 9 0xC6) []) gives 0)
     ∷ (startNumber (starting (set oneEntry 36 1) []) gives 6)
-    -- buses 9 to 8; buses over the end of the entry; the first and the last row share bus 15; owner 16; permitted bit 5; a conventional row; 16 and 17 rows
-    ∷ (startNumber (starting oneEntry (row Express 3 9 8 0x1F ∷ [])) gives 7)
-    ∷ (startNumber (starting (set (set sharedByte 64 1) 9 0xD5) (row Express 3 10 20 0x1F ∷ [])) gives 7)
-    ∷ (startNumber (starting oneEntry (row Express 3 0 15 0x1F ∷ row Express 5 16 31 0x1F ∷ row Express 5 15 15 0x1F ∷ [])) gives 7)
-    ∷ (startNumber (starting oneEntry (row Express 16 0 15 0x1F ∷ [])) gives 7)
-    ∷ (startNumber (starting oneEntry (row Express 3 0 15 0x20 ∷ [])) gives 7)
-    ∷ (startNumber (starting oneEntry (row Conventional 3 0 15 0x12 ∷ [])) gives 7)
-    ∷ (startNumber (starting oneEntry (row Conventional 3 0 15 0x02 ∷ [])) gives 0)
+    -- buses 9 to 8; buses over the end of the entry; the first and the last row share bus 15; owner 16; permitted bit 5; a conventional row
+    ∷ (startNumber (starting oneEntry (row express 3 9 8 0x1F ∷ [])) gives 7)
+    ∷ (startNumber (starting (set (set sharedByte 64 1) 9 0xD5) (row express 3 10 20 0x1F ∷ [])) gives 7)
+    ∷ (startNumber (starting oneEntry (row express 3 0 15 0x1F ∷ row express 5 16 31 0x1F ∷ row express 5 15 15 0x1F ∷ [])) gives 7)
+    ∷ (startNumber (starting oneEntry (row express 16 0 15 0x1F ∷ [])) gives 7)
+    ∷ (startNumber (starting oneEntry (row express 3 0 15 0x20 ∷ [])) gives 7)
+    ∷ (startNumber (starting oneEntry (row conventional 3 0 15 0x12 ∷ [])) gives 7)
+    ∷ (startNumber (starting oneEntry (row conventional 3 0 15 0x02 ∷ [])) gives 0)
+    -- kinds 2 and 255; kind 2 with an MCFG table that is not sound
+    ∷ (startNumber (starting oneEntry (row 2 3 0 15 0x02 ∷ [])) gives 7)
+    ∷ (startNumber (starting oneEntry (row 255 3 0 15 0 ∷ [])) gives 7)
+    ∷ (startNumber (starting [] (row 2 3 0 15 0x02 ∷ [])) gives 6)
+    -- 16 and 17 rows
     ∷ (startNumber (starting oneEntry (oneBusRows 16)) gives 0)
     ∷ (startNumber (starting oneEntry (oneBusRows 17)) gives 7)
     ∷ []
@@ -200,6 +204,7 @@ searches =
     ∷ (findRecord [] [] 0 gives found 9 0 0)
     ∷ (findRecord skipped types01 0 gives found 9 0 0)
     ∷ (findRecord skipped [] 3 gives found 9 0 0)
+    ∷ (findRecord [] types01 256 gives found 9 0 0)
     -- two bytes left over; two records of type 0; length 3; SERR 2; Device Control mask 65536; a length past the end
     ∷ (findRecord [] (types01 ++ 0 ∷ 0 ∷ []) 0 gives found 8 0 0)
     ∷ (findRecord [] (types01 ++ types01) 7 gives found 8 0 0)
@@ -222,7 +227,10 @@ grants =
     ∷ (oscOn 0x1F 0 (0xFE ∷ 0xFF ∷ 0xFF ∷ 0xFF ∷ 0xEF ∷ 0xBE ∷ 0xAD ∷ 0xDE ∷ 0x10 ∷ 0 ∷ 0 ∷ 0 ∷ []) gives record { answer = 0 ∷ 0 ∷ 0 ∷ 0 ∷ 0xEF ∷ 0xBE ∷ 0xAD ∷ 0xDE ∷ 0x10 ∷ 0 ∷ 0 ∷ 0 ∷ []; held = 0x10 })
     ∷ []
 
--- ---- refusal 5
+-- ---- refusals 5 and 4 of a place
+
+abbrev pub withBuses : (first last : ℕ) → Bridge
+withBuses first last = bridgeOf [] (row express 3 first last 0)
 
 abbrev pub places : List Line
 places =
@@ -233,6 +241,13 @@ places =
     ∷ (placeBad 31 7 4096 1 gives true)
     ∷ (placeBad 31 7 0 0 gives true)
     ∷ (placeBad 31 7 0 3 gives true)
+    -- numbers above a byte, and above two
+    ∷ (placeBad 256 0 0 4 gives true)
+    ∷ (placeBad 0 256 0 4 gives true)
+    ∷ (placeBad 0 0 65552 4 gives true)
+    ∷ (placeBad 0 0 0 257 gives true)
+    ∷ (busOutside (withBuses 0 255) 255 gives false)
+    ∷ (busOutside (withBuses 0 255) 256 gives true)
     ∷ []
 
 abbrev pub ExampleRuns : Type 0

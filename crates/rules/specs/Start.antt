@@ -1,7 +1,7 @@
 -- Document 01, "The MCFG table and the starting list": the starting list, start, and what a call may require of its table.
 use Prim.Native.Nat.{ℕ, zero, suc, _^_, _≤_, _<_}
 use mathlib.Core.Path.{_≡_}
-use mathlib.Core.Bool.{Bool, true, not, _&&_, _||_}
+use mathlib.Core.Bool.{Bool, true, not, cond, _&&_, _||_}
 use mathlib.Core.List.{List, [], _∷_, map}
 use mathlib.Core.Option.{Option, none, some}
 use lib.Dec.{eqb, leb}
@@ -11,12 +11,10 @@ use Rattle.rules.specs.Lists.{every, pairwise, padded, first, isNone}
 use Rattle.rules.specs.Numbers.{within}
 use Rattle.rules.specs.Refusals.{Refusal, _if_, firstOf}
 use Rattle.rules.specs.Mcfg.{entries, mcfgSound, busesApart, busEnd}
-use Rattle.rules.specs.Tables.{noBridge, bridgeAt}
+use Rattle.rules.specs.Tables.{unused, tableWith, bridgeAt}
 use Rattle.rules.specs.Place.{inWindow}
 use Rattle.rules.specs.Osc.{knownControl}
 use Rattle.rules.specs.declared.Bridge.{Bridge}
-use Rattle.rules.specs.declared.BridgeKind.{BridgeKind}
-use Rattle.rules.specs.declared.BridgeKind.the-variants.{Express, Conventional}
 use Rattle.rules.specs.declared.BridgeNumber.{BridgeNumber}
 use Rattle.rules.specs.declared.BridgeRow.{BridgeRow}
 use Rattle.rules.specs.declared.Table.{Table}
@@ -40,10 +38,16 @@ abbrev pub baseOf : Option Entry → ℕ
 baseOf none = 0
 baseOf (some e) = e .base
 
+-- "kind (Express or conventional)"
+abbrev pub express : ℕ
+express = 0
+
+abbrev pub conventional : ℕ
+conventional = 1
+
 -- the control bits that a row of this kind may permit
-abbrev pub permissible : BridgeKind → ℕ
-permissible Express = knownControl
-permissible Conventional = 0x02
+abbrev pub permissible : ℕ → ℕ
+permissible kind = cond (eqb kind conventional) 0x02 knownControl
 
 -- what is sound of one row
 abbrev pub rowSound : List Entry → BridgeRow → Bool
@@ -51,6 +55,7 @@ rowSound es r =
     leb (r .owner .0) maxOwner  -- owner not above 15
     && leb (r .«first_bus») (r .«last_bus»)  -- first not above last
     && not (isNone (entryOf es r))  -- the row's buses lie inside one MCFG entry of its segment
+    && (eqb (r .kind) express || eqb (r .kind) conventional)  -- Express or conventional
     && within (r .permitted) knownControl  -- no permitted bit above 4
     && within (r .permitted) (permissible (r .kind))  -- a conventional row permits no bit but 1
 
@@ -88,7 +93,7 @@ bridgeOf es r = record {
 
 -- "Bridges are numbered from 0 in list order"
 abbrev pub tableOf : List Bridge → Table
-tableOf l = record { bridges = padded noBridge maxRows l; count = length l }
+tableOf l = tableWith (padded unused maxRows l) (length l)
 
 -- "a refused start gives a table with no bridges"
 abbrev pub startBy : ℕ → StartInput → Table

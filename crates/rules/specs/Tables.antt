@@ -17,7 +17,7 @@ nothingHeld = record { held = 0; supported = 0 }
 abbrev pub holding : Bridge → Holding
 holding b = record { held = b .held; supported = b .supported }
 
--- the row with another holding; all else is set at start
+-- the bridge with another holding; all else is set at start
 abbrev pub withHolding : Bridge → Holding → Bridge
 withHolding b h = record {
   base = b .base;
@@ -30,7 +30,7 @@ withHolding b h = record {
   «last_bus» = b .«last_bus»;
 }
 
--- the row with nothing held
+-- the bridge with nothing held
 abbrev pub cleared : Bridge → Bridge
 cleared b = withHolding b nothingHeld
 
@@ -38,11 +38,19 @@ cleared b = withHolding b nothingHeld
 abbrev pub owns : SessionNumber → Bridge → Bool
 owns s b = eqb (b .owner .0) (s .0)
 
--- what stands in a place of the table that no bridge has
+-- what a reading past the end of the table's array would give; no call's answer rests on it
 abbrev pub noBridge : Bridge
 noBridge = record { base = 0; permitted = 0; held = 0; supported = 0; segment = 0; owner = record { 0 = 0 }; «first_bus» = 0; «last_bus» = 0 }
 
--- the row of bridge i
+-- what stands in a place of the table that no bridge has
+abbrev pub unused : Bridge
+unused = record { base = 0; permitted = 0; held = 0; supported = 0; segment = 0; owner = record { 0 = 0 }; «first_bus» = 0; «last_bus» = 0 }
+
+-- a table of its parts
+abbrev pub tableWith : (bridges : List Bridge) (count : ℕ) → Table
+tableWith bridges count = record { bridges = bridges; count = count }
+
+-- bridge i
 abbrev pub bridgeAt : Table → ℕ → Bridge
 bridgeAt t i = getD (t .bridges) i noBridge
 
@@ -50,11 +58,11 @@ bridgeAt t i = getD (t .bridges) i noBridge
 abbrev pub bridgesOf : Table → List Bridge
 bridgesOf t = take (t .count) (t .bridges)
 
--- the table with these rows
+-- the table with these in its places
 abbrev pub withBridges : Table → List Bridge → Table
-withBridges t l = record { bridges = l; count = t .count }
+withBridges t l = tableWith l (t .count)
 
--- the table with row i stored back
+-- the table with bridge i stored back
 abbrev pub withBridge : Table → ℕ → Bridge → Table
 withBridge t i b = withBridges t (set (t .bridges) i b)
 

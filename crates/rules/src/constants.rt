@@ -7,6 +7,11 @@ pub const MAX_OWNER: u8 = 15;
 
 pub const MAX_BLOCK: usize = 1024;
 
+// The kinds of specs/Start.
+pub const EXPRESS: u8 = 0;
+
+pub const CONVENTIONAL: u8 = 1;
+
 // The known bits of specs/Osc.
 pub const KNOWN_CONTROL: u32 = 0x1f;
 

@@ -11,19 +11,15 @@ pub struct SessionNumber(pub u8);
 #[repr(C)]
 pub struct BridgeNumber(pub u8);
 
-pub enum BridgeKind {
-    Express,
-    Conventional,
-}
-
-// A row of the starting list.
+// A row of the starting list; its kind is 0, Express, or 1, conventional.
+#[repr(C)]
 pub struct BridgeRow {
-    pub owner: SessionNumber,
+    pub permitted: u32,
     pub segment: u16,
+    pub owner: SessionNumber,
     pub first_bus: u8,
     pub last_bus: u8,
-    pub kind: BridgeKind,
-    pub permitted: u32,
+    pub kind: u8,
 }
 
 // What the table keeps of a host bridge.
@@ -39,7 +35,7 @@ pub struct Bridge {
     pub last_bus: u8,
 }
 
-// Bridges 0 to count - 1 stand first; the other places hold zeros.
+// Bridges 0 to count - 1 stand first; the other places are unused.
 #[repr(C)]
 pub struct Table {
     pub bridges: [Bridge; MAX_ROWS],

@@ -6,12 +6,13 @@ use locate::Located;
 use rows::Addressed;
 use rows::Reported;
 use rules::BridgeNumber;
+use rules::BridgeRow;
 use rules::SessionNumber;
 use rules::Table;
 use start::Started;
 ghost use mathlib.Core.Path.{_≡_};
 ghost use mathlib.Core.List.{[], _∷_};
-ghost use Rattle.rules.specs.Start.{Sound};
+ghost use Rattle.rules.specs.Start.{startNumber, startTable, Sound};
 ghost use Rattle.rules.specs.Calls.{
   osc,
   reset,
@@ -28,15 +29,15 @@ ghost use Rattle.rules.specs.Calls.{
   outcome,
   step,
 };
-ghost use Rattle.row_bytes.specs.RowBytes.{bytesNumber, bytesTable};
 ghost use Rattle.slipwattle.specs.Boundary.{recordAt};
 
-// The rows cross as bytes, ten for each, since a row holds an enum.
+// The table of the rows, of any number, or a refusal and no bridges.
 #[no_mangle]
-pub extern "C" fn slipwattle_start(mcfg: &[u8], rows: &[u8]) -> Started
-    ensures { λ r. ⌜ (r .number ≡ bytesNumber (now (mcfg .entry)) (now (rows .entry))) × (r .table ≡ bytesTable (now (mcfg .entry)) (now (rows .entry))) ⌝ }
+pub extern "C" fn slipwattle_start(mcfg: &[u8], rows: &[BridgeRow]) -> Started
+    ensures { λ r. ⌜ (r .number ≡ startNumber (record { mcfg = now (mcfg .entry); rows = now (rows .entry) }))
+        × (r .table ≡ startTable (record { mcfg = now (mcfg .entry); rows = now (rows .entry) })) ⌝ }
 {
-    row_bytes::start_bytes(mcfg, rows)
+    start::assemble(lent_rows::judge(mcfg, rows))
 }
 
 // _OSC: the answer buffer is filled, or left as it was lent.

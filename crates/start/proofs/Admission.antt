@@ -1,5 +1,4 @@
 -- Start row by row: the first i rows of a list are sound, apart and in their places; one more row; the whole list.
--- It serves any loop that admits the rows of a list one after the other.
 -- Assumes nothing.
 use Prim.Native.Nat.{ℕ, _+_, _≤_, _<_}
 use mathlib.Core.Path.{_≡_, refl, sym, ap, ap₂, _∙_}
@@ -15,7 +14,7 @@ use Rattle.rules.specs.Limits.{maxRows}
 use Rattle.rules.specs.Lists.{every, pairwise, padded}
 use Rattle.rules.specs.Refusals.{_if_, firstOf}
 use Rattle.rules.specs.Mcfg.{entries, mcfgSound}
-use Rattle.rules.specs.Tables.{noBridge}
+use Rattle.rules.specs.Tables.{unused}
 use Rattle.rules.specs.Start.{StartInput, rowSound, rowsApart, rowsSound, bridgeOf, tableOf, startNumber, startTable}
 use Rattle.rules.specs.declared.Bridge.{Bridge}
 use Rattle.rules.specs.declared.BridgeRow.{BridgeRow}
@@ -27,30 +26,14 @@ use Rattle.start.proofs.Listing.{every-snoc, pairwise-snoc, padded-snoc
 
 -- ---- one row more
 
--- 0 is the number of a row that is admitted, and of no other
-module _ (q : Bool) (n : ℕ) (is : n ≡ cond q 0 7) where
-  pub admitted : n ≡ 0 → q ≡ true
-  admitted z = go q is
-    where
-      go : (p : Bool) → n ≡ cond {A = ℕ} p 0 7 → p ≡ true
-      go true e = refl
-      go false e = absurd (omega arith)
-
-  pub rejected : (n ≡ 0 → ⊥) → (q ≡ false) × (n ≡ 7)
-  rejected z = go q is
-    where
-      go : (p : Bool) → n ≡ cond {A = ℕ} p 0 7 → (p ≡ false) × (n ≡ 7)
-      go true e = absurd (z e)
-      go false e = (refl, e)
-
 module _ (es : List Entry) where
   -- each row is sound, and each pair apart
   abbrev pub rowsGood : List BridgeRow → Bool
   rowsGood rows = every (rowSound es) rows && pairwise rowsApart rows
 
   -- the places of the table of these rows
-  abbrev placesOf : List BridgeRow → List Bridge
-  placesOf rows = padded noBridge maxRows (map (bridgeOf es) rows)
+  abbrev pub placesOf : List BridgeRow → List Bridge
+  placesOf rows = padded unused maxRows (map (bridgeOf es) rows)
 
   -- the row is sound, and apart from the rows before it
   abbrev pub admissible : List BridgeRow → BridgeRow → Bool
@@ -68,8 +51,8 @@ module _ (es : List Entry) where
         n : length (map (bridgeOf es) rows) ≡ length rows
         n = length-map rows (bridgeOf es)
 
-        stored : padded noBridge maxRows (map (bridgeOf es) rows ++ bridgeOf es r ∷ []) ≡ set (placesOf rows) (length rows) (bridgeOf es r)
-        stored = padded-snoc noBridge maxRows (map (bridgeOf es) rows) (bridgeOf es r) (rw n room) ∙ ap (λ (k : ℕ). set (placesOf rows) k (bridgeOf es r)) n
+        stored : padded unused maxRows (map (bridgeOf es) rows ++ bridgeOf es r ∷ []) ≡ set (placesOf rows) (length rows) (bridgeOf es r)
+        stored = padded-snoc unused maxRows (map (bridgeOf es) rows) (bridgeOf es r) (rw n room) ∙ ap (λ (k : ℕ). set (placesOf rows) k (bridgeOf es r)) n
 
   -- the first i rows of a list are sound, apart and in their places
   pub record Listed (rows : List BridgeRow) (i : ℕ) (l : List Bridge) : Type 0 where
@@ -77,7 +60,7 @@ module _ (es : List Entry) where
     pub places : l ≡ placesOf (take i rows)
     pub good : rowsGood (take i rows) ≡ true
 
-  pub listed-none : (rows : List BridgeRow) → Listed rows 0 (padded noBridge maxRows [])
+  pub listed-none : (rows : List BridgeRow) → Listed rows 0 (padded unused maxRows [])
   listed-none rows = record { upto = omega arith; places = refl; good = refl }
 
   module _ (rows : List BridgeRow) (i : ℕ) (l : List Bridge) (d : BridgeRow) (listed : Listed rows i l) (left : i < length rows) where
@@ -116,8 +99,7 @@ module _ (es : List Entry) where
             true≢false (sym (and-is (every-take (rowSound es) rows (i + 1) sound) (pairwise-take rowsApart rows (i + 1) apart)) ∙ more ∙ a)
 
   -- all rows are listed
-  pub listed-all : (rows : List BridgeRow) (i : ℕ) (l : List Bridge) → Listed rows i l → length rows ≤ i → length rows ≤ maxRows
-      → (rowsSound es rows ≡ true) × (record { bridges = l; count = i } ≡ tableOf (map (bridgeOf es) rows))
+  pub listed-all : (rows : List BridgeRow) (i : ℕ) (l : List Bridge) → Listed rows i l → length rows ≤ i → length rows ≤ maxRows → (rowsSound es rows ≡ true) × (l ≡ placesOf rows)
   unfolding rowsSound
   listed-all rows i l listed past few =
       let w = take-all i rows past in
@@ -125,11 +107,8 @@ module _ (es : List Entry) where
         and-is
             (and-is (le-leb (length rows) maxRows few) (and-l (every (rowSound es) rows) (pairwise rowsApart rows) g))
             (and-r (every (rowSound es) rows) (pairwise rowsApart rows) g),
-        ap₂ (λ (k : List Bridge) (n : ℕ). record { bridges = k; count = n }) (rw w at (listed .places)) (n=i ∙ sym (length-map rows (bridgeOf es))),
+        rw w at (listed .places),
       )
-    where
-      n=i : i ≡ length rows
-      n=i = omega (arith, listed .upto)
 
 -- a list of more rows than a table holds
 too-many : (es : List Entry) (rows : List BridgeRow) → maxRows < length rows → rowsSound es rows ≡ false
@@ -143,7 +122,7 @@ module _ (x : StartInput) where
   es = entries (x .mcfg)
 
   -- a refused start: its number, and no bridges
-  abbrev Refused : ℕ → Type 0
+  abbrev pub Refused : ℕ → Type 0
   Refused n = (n ≡ startNumber x) × (tableOf [] ≡ startTable x)
 
   table-refused : mcfgSound (x .mcfg) ≡ false → Refused 6
@@ -159,20 +138,21 @@ module _ (x : StartInput) where
   unfolding startTable startNumber
   all-admitted m r = rw (m, r) (refl, refl)
 
-  module _ (n count : ℕ) (is : n ≡ firstNumber (x .mcfg) count) where
-    pub first-passes : n ≡ 0 → (mcfgSound (x .mcfg) ≡ true) × (count ≤ maxRows)
-    first-passes z = go (mcfgSound (x .mcfg)) (leb count maxRows) refl refl (sym is ∙ z)
+  -- what is refused before the first row is judged, by its number
+  module _ (n : ℕ) (is : n ≡ firstNumber (x .mcfg) (length (x .rows))) where
+    pub first-passes : n ≡ 0 → (mcfgSound (x .mcfg) ≡ true) × (length (x .rows) ≤ maxRows)
+    first-passes z = go (mcfgSound (x .mcfg)) (leb (length (x .rows)) maxRows) refl refl (sym is ∙ z)
       where
-        go : (a b : Bool) → mcfgSound (x .mcfg) ≡ a → leb count maxRows ≡ b → firstOf ((6 if not a) ∷ (7 if not b) ∷ []) ≡ 0
-            → (mcfgSound (x .mcfg) ≡ true) × (count ≤ maxRows)
-        go true true p q e = (p, leb-true count maxRows q)
+        go : (a b : Bool) → mcfgSound (x .mcfg) ≡ a → leb (length (x .rows)) maxRows ≡ b → firstOf ((6 if not a) ∷ (7 if not b) ∷ []) ≡ 0
+            → (mcfgSound (x .mcfg) ≡ true) × (length (x .rows) ≤ maxRows)
+        go true true p q e = (p, leb-true (length (x .rows)) maxRows q)
         go true false p q e = absurd (omega arith)
         go false b p q e = absurd (omega arith)
 
-    pub first-refuses : (maxRows < count → maxRows < length (x .rows)) → (n ≡ 0 → ⊥) → Refused n
-    first-refuses long z = go (mcfgSound (x .mcfg)) (leb count maxRows) refl refl is
+    pub first-refuses : (n ≡ 0 → ⊥) → Refused n
+    first-refuses z = go (mcfgSound (x .mcfg)) (leb (length (x .rows)) maxRows) refl refl is
       where
-        go : (a b : Bool) → mcfgSound (x .mcfg) ≡ a → leb count maxRows ≡ b → n ≡ firstOf ((6 if not a) ∷ (7 if not b) ∷ []) → Refused n
+        go : (a b : Bool) → mcfgSound (x .mcfg) ≡ a → leb (length (x .rows)) maxRows ≡ b → n ≡ firstOf ((6 if not a) ∷ (7 if not b) ∷ []) → Refused n
         go true true p q e = absurd (z e)
-        go true false p q e = rw e (rows-refused p (too-many es (x .rows) (long (leb-false count maxRows q))))
+        go true false p q e = rw e (rows-refused p (too-many es (x .rows) (leb-false (length (x .rows)) maxRows q)))
         go false b p q e = rw e (table-refused p)

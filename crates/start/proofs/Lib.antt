@@ -1,3 +1,3 @@
 pub mod Listing
 pub mod Admission
-pub mod Walk
+pub mod Judging

@@ -5,7 +5,7 @@ use mathlib.Core.Path.{_≡_, refl, sym, ap, _∙_}
 use mathlib.Core.Bool.{Bool, true, _&&_, and-true, and-assoc}
 use mathlib.Core.List.{List, [], _∷_, _++_, map}
 use native.Mathlib.Omega.{arith}
-use lib.ListN.{length, take, drop, set, take-append-drop}
+use lib.ListN.{length, take, drop, set, replicate, take-append-drop}
 use Rattle.rules.specs.Lists.{every, pairwise, padded}
 use Rattle.rules.proofs.Tests.{and-l, and-r, and-is}
 use Rattle.mcfg.proofs.Heads.{shuffle}
@@ -27,6 +27,10 @@ module _ {A : Type 0} where
   padded-snoc d (suc n) [] x h = refl
   padded-snoc d (suc n) (y ∷ l) x h = ap (λ (k : List A). y ∷ k) (padded-snoc d n l x (omega arith))
 
+  pub padded-none : (d : A) (n : ℕ) → padded d n [] ≡ replicate n d
+  padded-none d zero = refl
+  padded-none d (suc n) = ap (λ (k : List A). d ∷ k) (padded-none d n)
+
   -- the front of a list that passes
 
   every-front : (p : A → Bool) (l k : List A) → every p (l ++ k) ≡ true → every p l ≡ true
@@ -44,13 +48,6 @@ module _ {A : Type 0} where
 
   pub pairwise-take : (p : A → A → Bool) (l : List A) (i : ℕ) → pairwise p l ≡ true → pairwise p (take i l) ≡ true
   pairwise-take p l i e = pairwise-front p (take i l) (drop i l) (ap (pairwise p) (take-append-drop i l) ∙ e)
-
-  -- a list in an array is its front
-
-  pub padded-take : (d : A) (n : ℕ) (l : List A) → length l ≤ n → take (length l) (padded d n l) ≡ l
-  padded-take d n [] h = refl
-  padded-take d zero (y ∷ l) h = absurd (omega arith)
-  padded-take d (suc n) (y ∷ l) h = ap (λ (k : List A). y ∷ k) (padded-take d n l (omega arith))
 
 module _ {A B : Type 0} (f : A → B) where
   pub map-snoc : (l : List A) (x : A) → map f (l ++ x ∷ []) ≡ map f l ++ f x ∷ []

@@ -1,35 +1,31 @@
 // The table of a lent MCFG table and the rows of a starting list.
 use rules::Bridge;
-use rules::BridgeKind;
 use rules::BridgeRow;
 use rules::SessionNumber;
 use rules::Table;
+use rules::constants::CONVENTIONAL;
+use rules::constants::EXPRESS;
 use rules::constants::KNOWN_CONTROL;
 use rules::constants::MAX_OWNER;
 ghost use mathlib.Core.Path.{_≡_};
 ghost use mathlib.Core.Bool.{cond, _&&_};
-ghost use mathlib.Core.List.{[]};
-ghost use Rattle.rules.specs.Limits.{maxRows};
-ghost use Rattle.rules.specs.Lists.{padded};
+ghost use lib.Dec.{eqb};
 ghost use Rattle.rules.specs.Mcfg.{entries};
-ghost use Rattle.rules.specs.Tables.{noBridge};
-ghost use Rattle.rules.specs.Start.{permissible, rowSound, rowsApart, bridgeOf, tableOf};
-ghost use Rattle.start.specs.Admission.{rowSoundIf, firstNumber, startedWith, withoutBridges};
-
-// The rows of a list by value: one more than a table holds, so that a list that is too long can be handed in.
-pub const LIST_ROWS: usize = rules::MAX_ROWS + 1;
+ghost use Rattle.rules.specs.Tables.{unused, tableWith};
+ghost use Rattle.rules.specs.Start.{permissible, rowSound, rowsApart, bridgeOf};
+ghost use Rattle.start.specs.Admission.{rowSoundIf, firstNumber, startedWith};
 
 // Control bit 1.
 const SHPC: u32 = 0x02;
 
 // The control bits that a row of this kind may permit.
-fn permissible(kind: BridgeKind) -> u32
+fn permissible(kind: u8) -> u32
     ensures { λ r. ⌜ r ≡ permissible kind ⌝ }
 {
-    match kind {
-        BridgeKind::Express => KNOWN_CONTROL,
-        BridgeKind::Conventional => SHPC,
+    if kind == CONVENTIONAL {
+        return SHPC;
     }
+    KNOWN_CONTROL
 }
 
 // What is sound of one row that lies inside an entry, or in none.
@@ -37,11 +33,11 @@ fn row_sound(row: BridgeRow, inside: bool) -> bool
     ensures { λ r. ⌜ r ≡ rowSoundIf inside row ⌝ }
 {
     let owner = row.owner;
-    let kind = row.kind;
-    let mask = permissible(kind);
+    let mask = permissible(row.kind);
     (owner.0 <= MAX_OWNER)
         & (row.first_bus <= row.last_bus)
         & inside
+        & ((row.kind == EXPRESS) | (row.kind == CONVENTIONAL))
         & (row.permitted & KNOWN_CONTROL == row.permitted)
         & (row.permitted & mask == row.permitted)
 }
@@ -63,9 +59,9 @@ pub struct Admitted {
     pub bridge: Bridge,
 }
 
-// The bridge of no row.
-pub fn no_bridge() -> Bridge
-    ensures { λ r. ⌜ r ≡ noBridge ⌝ }
+// What stands in a place that no bridge has.
+pub fn unused() -> Bridge
+    ensures { λ r. ⌜ r ≡ unused ⌝ }
 {
     let owner = SessionNumber(0);
     Bridge {
@@ -83,7 +79,7 @@ pub fn no_bridge() -> Bridge
 // A row against the MCFG entries; `apart` says that it shares no bus with a row before it.
 pub fn admit(mcfg: &[u8], row: BridgeRow, apart: bool) -> Admitted
     ensures { λ r. ⌜ (r .number ≡ cond (rowSound (entries (now (mcfg .entry))) row && apart) 0 7)
-        × (r .bridge ≡ cond (rowSound (entries (now (mcfg .entry))) row && apart) (bridgeOf (entries (now (mcfg .entry))) row) noBridge) ⌝ }
+        × (r .bridge ≡ cond (rowSound (entries (now (mcfg .entry))) row && apart) (bridgeOf (entries (now (mcfg .entry))) row) unused) ⌝ }
 {
     let place = mcfg::entry_of(mcfg, row);
     if row_sound(row, place.found) & apart {
@@ -102,11 +98,11 @@ pub fn admit(mcfg: &[u8], row: BridgeRow, apart: bool) -> Admitted
     }
     Admitted {
         number: 7,
-        bridge: no_bridge(),
+        bridge: unused(),
     }
 }
 
-// 6: the MCFG table is not sound; 7: more rows than a table holds; else 0.
+// What start refuses before it judges a row: 6, the MCFG table is not sound; 7, more rows than a table holds.
 pub fn first_number(mcfg: &[u8], count: usize) -> u8
     ensures { λ r. ⌜ r ≡ firstNumber (now (mcfg .entry)) count ⌝ }
 {
@@ -119,41 +115,57 @@ pub fn first_number(mcfg: &[u8], count: usize) -> u8
     0
 }
 
-// The places of a table with no bridges.
-pub fn no_places() -> [Bridge; rules::MAX_ROWS]
-    ensures { λ r. ⌜ r ≡ padded noBridge maxRows [] ⌝ }
+// One count where nothing is refused so far, another where something is.
+pub fn if_done(number: u8, done: usize, refused: usize) -> usize
+    ensures { λ r. ⌜ r ≡ cond (eqb number 0) done refused ⌝ }
 {
-    let b = no_bridge();
-    [b; rules::MAX_ROWS]
+    if number == 0 {
+        return done;
+    }
+    refused
 }
 
-// The table with no bridges.
-pub fn no_bridges() -> Table
-    ensures { λ r. ⌜ r ≡ tableOf [] ⌝ }
-{
-    let bridges = no_places();
-    Table { bridges, count: 0 }
+// Rows judged: 0, their bridges in the places of a table, and how many; or 7, unused places and none.
+#[repr(C)]
+pub struct Judged {
+    pub bridges: [Bridge; rules::MAX_ROWS],
+    pub count: usize,
+    pub number: u8,
 }
 
-// What start gives: the table and its number. The table stands first, so that nothing but its rows is copied when it is handed back.
+// Rows judged, of its parts.
+pub fn judged_with(bridges: [Bridge; rules::MAX_ROWS], count: usize, number: u8) -> Judged
+    ensures { λ r. ⌜ r ≡ record { bridges = bridges; count = count; number = number } ⌝ }
+{
+    Judged {
+        bridges,
+        count,
+        number,
+    }
+}
+
+// A table of its parts.
+fn table_with(bridges: [Bridge; rules::MAX_ROWS], count: usize) -> Table
+    ensures { λ r. ⌜ r ≡ tableWith bridges count ⌝ }
+{
+    Table { bridges, count }
+}
+
+// What start gives: the table and its number. The table stands first, so that nothing but its places is copied when it is handed back.
 #[repr(C)]
 pub struct Started {
     pub table: Table,
     pub number: u8,
 }
 
-// A start with no bridges.
-pub fn without_bridges(number: u8) -> Started
-    ensures { λ r. ⌜ r ≡ withoutBridges number ⌝ }
+// What start gives of rows judged.
+pub fn assemble(judged: Judged) -> Started
+    ensures { λ r. ⌜ r ≡ startedWith judged ⌝ }
 {
-    let table = no_bridges();
-    Started { table, number }
-}
-
-// A start with `count` bridges.
-pub fn with_bridges(bridges: [Bridge; rules::MAX_ROWS], count: usize) -> Started
-    ensures { λ r. ⌜ r ≡ startedWith bridges count ⌝ }
-{
-    let table = Table { bridges, count };
-    Started { table, number: 0 }
+    let bridges = judged.bridges;
+    let table = table_with(bridges, judged.count);
+    Started {
+        table,
+        number: judged.number,
+    }
 }

@@ -14,8 +14,8 @@ pub use prog.Routine.{Env as Routines, Routine}
 pub use prog.Model.{Model}
 -- the calculus of a walk, and its steps
 pub use types.Kit.{ !, ++⊢, Given, Go, Goal, Item, Post, Seq, Soaks, Sq, Step, _$_, _∵_, _⊛_, allocs, anyQ, assume, atRet, await, by, del, done, drop, feqI, feqL, fjoin, fpack, fpick, frame, frees, fsplit, fsplit3, join, keep, lands, later, mean, move, now, nth, params′, passes, pick, pop, post, prop, pull, push, qed, raw, rewrite, runs, settles, show, some, split, suffices, unpull, updating, use0, use1, use2, ‵, ⊢++, ⋆}
-pub use types.Run.{Below, Finds, Opd, Opds, Reads, Walks, addr, again, alloc0, alloc1, and-then, assigns, assigns-last, bin, blocks, branches, enter, exec, first, fld, forget, free0, free1, from, hop, init, jumps, land, land-last, lit, load, look, look-raw, loops, no-more, of-opd, params1, pass0, pass1, returns, returns-within, skips, stop, store, store-raw, true-lit}
-pub use types.Part.{agg, look-in, store-in, sub, whole}
+pub use types.Run.{Below, Finds, Opd, Opds, Reads, Walks, addr, again, alloc0, alloc1, and-then, assigns, assigns-last, bin, blocks, branches, enter, exec, false-lit, first, fld, forget, free0, free1, from, hop, init, jumps, land, land-last, lit, load, look, look-raw, loops, no-more, of-opd, params1, pass0, pass1, returns, returns-within, skips, stop, store, store-raw, true-lit, un}
+pub use types.Part.{agg, look-in, rep, store-in, sub, whole}
 pub use types.Share.{arr-parts}
 pub use types.SemTy.{Body, cells}
 pub use sound.WpLaws.{FmC, fmOf}
@@ -26,7 +26,7 @@ pub use denote.Memory.{cellAt, lone, mem, partAt, pointee, shares}
 pub use denote.Builtin.{u8, u32}
 pub use denote.Ref.{MutRef, NamedLft, RefT, mut-tells, ptr-vals}
 pub use denote.Slice.{MutSlice, Room, ShrSlice, mut-slice-lawful, mut-slice-tells, shr-slice-copy, shr-slice-lawful, shr-slice-tells, slice-vals, sliceTy, sliceVal}
-pub use denote.Array.{Array, array-lawful, array-makes, array-tells, array-vals}
+pub use denote.Array.{Array, array-lawful, array-makes, array-tells, array-vals, arrayVal, each}
 pub use denote.Exit.{Exit, Last, left, unchanged, yes}
 pub use denote.Signature.{Signature, Slot, mutRefTo, namedLft, plain, shrSliceOf, typeAt, typesAt}
 pub use denote.Steps.{facts, heard, nothing, only, owned, peeks, said}

@@ -2,6 +2,7 @@ pub mod Kit
 pub mod Frame
 pub mod Turns
 pub mod Values
+pub mod Arrays
 pub mod Inside
 pub mod Contracts
 pub mod Params

@@ -1,12 +1,15 @@
 -- Plain data: a value is one machine value, and owns only facts.
 --     Value            such a type: `number`, `truth`, `struct` and `array` are the kinds, `word` the number that lengths are
+--     repeated, repeated-is        an array of one value n times: its machine value, and that it is one
 --     told             as a step: of a value that came back, the machine value is written out and the relation in hand, and what it owns is let go
 -- Assumes nothing; the laws and the step take `Given`.
-use mathlib.Core.Path.{sym, ap, subst}
-use mathlib.Core.List.{[], _∷_, List}
-use Prim.Native.Nat.{ℕ}
+use mathlib.Core.Path.{_≡_, refl, sym, ap, subst}
+use mathlib.Core.List.{[], _∷_, List, map}
+use Prim.Native.Nat.{ℕ, zero, suc}
+use lib.ListN.{replicate, length-replicate}
 use lib.Dec.{T as So}
-use Rattle.walks.proofs.Kit.{URA, Ty, Width, w64, tyInt, tyBool, Val, vint, vbool, WT, hasTy, Heap, Atoms, Given, Goal, Item, Seq, ‵, RattleType, Is, Tells, Makes, Lawful, shows, lone, Array, array-vals, array-tells, array-lawful, array-makes, only, facts}
+use Rattle.walks.proofs.Kit.{URA, Ty, Width, w64, tyInt, tyBool, Val, vint, vbool, WT, hasTy, Heap, Atoms, Given, Goal, Item, Seq, ‵, RattleType, Is, Tells, Makes, Lawful, shows, lone, Array, array-vals, array-tells, array-lawful, array-makes, arrayVal, each, only, facts}
+use denote.Shadow.{shadow}
 use denote.Plain.{UInt, Boolean, uint-tells, uint-lawful, uint-makes, bool-tells, bool-lawful, bool-makes}
 use denote.Struct.Struct.{Plains, layout}
 use denote.Struct.Declared.{Declared, fields, row, shape}
@@ -44,6 +47,21 @@ array V′ n = record {
   typed = λ 𝓤 H A W x is. array-lawful 𝓤 H A W (V′ .row) (V′ .lawful 𝓤 H A W) n .typed x _ is .0;
   makes = λ 𝓤 H A W. array-makes 𝓤 H A W (V′ .row) (V′ .makes 𝓤 H A W) n;
 }
+
+module _ (V′ : Value) where
+  vals-repeated : (n : ℕ) (x : V′ .row .Denot) → replicate n (V′ .val x) ≡ map (V′ .val) (replicate n x)
+  vals-repeated zero x = refl
+  vals-repeated (suc n) x = ap (λ (vs : List Val). V′ .val x ∷ vs) (vals-repeated n x)
+
+  pub repeated : (n : ℕ) (x : V′ .row .Denot) → arrayVal (replicate n (V′ .val x)) ≡ array V′ n .val (replicate n x)
+  repeated n x = ap arrayVal (vals-repeated n x)
+
+  each-repeated : (n : ℕ) (x : V′ .row .Denot) → Is (V′ .row) x (V′ .val x ∷ []) → shadow (each (V′ .row .Denot) (V′ .row .own) (replicate n x) (map (V′ .val) (replicate n x)))
+  each-repeated zero x is = tt
+  each-repeated (suc n) x is = (is, each-repeated n x is)
+
+  pub repeated-is : (n : ℕ) (x : V′ .row .Denot) → Is (V′ .row) x (V′ .val x ∷ []) → Is (array V′ n .row) (replicate n x) (array V′ n .val (replicate n x) ∷ [])
+  repeated-is n x is = (map (V′ .val) (replicate n x), ((refl, length-replicate n x), each-repeated n x is))
 
 pub told : {M : Type 1} {𝓤 : URA M} {H : Heap 𝓤} {A : Atoms 𝓤} {K : Type 0} {W : Given 𝓤 H A} {Γ : List (Item 𝓤)} → K → (V′ : Value) (G : Val → Goal 𝓤 H) (x : V′ .row .Denot) (v : Val) → (Is (V′ .row) x (V′ .val x ∷ []) → Seq K W Γ (G (V′ .val x))) → Seq K W (‵ (V′ .row .own x (v ∷ [])) ∷ Γ) (G v)
 told {𝓤 = 𝓤} {H} {A} {K} {W} {Γ} t V′ G x v k =

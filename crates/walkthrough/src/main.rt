@@ -106,7 +106,7 @@ fn begin() -> Table
     text(b"Two sessions share one service: the class is session 1, the plant is session 2.\n");
     row(b"Bridge 0 carries simulated cards", simulated);
     row(b"Bridge 1 carries the cards of a live pond", live);
-    let mut rows = [simulated; start::LIST_ROWS];
+    let mut rows = [simulated; start_array::LIST_ROWS];
     rows[1] = live;
     let started = fixtures::start(BASE, 0, 255, 1, rows, 2);
     hex(b"The table starts. MCFG entry at base ", BASE, 8);

@@ -23,11 +23,11 @@ row-sound-requires c κs = search needs
 returns : tie.Need-returns
 returns c = simp (sym (judged (c .before .before)) ∙ c .before .if1 .taken, c .before .before .before .entry-of .ensures .1) (refl, refl)
 
-no-bridge-requires : tie.Need-no-bridge-requires
-no-bridge-requires c κs = search needs
+unused-requires : tie.Need-unused-requires
+unused-requires c κs = search needs
 
 returns-2 : tie.Need-returns-2
-returns-2 c = rw (sym (judged (c .before .before)) ∙ c .before .if1 .left) (refl, c .no-bridge .ensures)
+returns-2 c = rw (sym (judged (c .before .before)) ∙ c .before .if1 .left) (refl, c .unused .ensures)
 
 pub admit-spec : {M : Type 1} → statement M
-admit-spec = tie.close (tie.spec entry-of-requires row-sound-requires returns no-bridge-requires returns-2)
+admit-spec = tie.close (tie.spec entry-of-requires row-sound-requires returns unused-requires returns-2)

@@ -1,19 +1,13 @@
--- `start::permissible` meets its contract: each case is the definition's.
-use borrow.Author.Needs.{needs}
+-- `start::permissible` meets its contract: the test is the definition's.
+use borrow.Author.Tests.{eq-eqb, ne-eqb}
 use Rattle.start.proofs.permissible.Statement.{statement}
 use Rattle.start.proofs.permissible.Tie as tie
 
-enum-told : tie.Need-enum-told
-enum-told c = search needs
-
-enum-told-2 : tie.Need-enum-told-2
-enum-told-2 c = search needs
-
 returns : tie.Need-returns
-returns c = search needs
+returns c = rw (eq-eqb _ 1 (c .if1 .taken))
 
 returns-2 : tie.Need-returns-2
-returns-2 c = search needs
+returns-2 c = rw (ne-eqb _ 1 (c .if1 .left))
 
 pub permissible-spec : {M : Type 1} → statement M
-permissible-spec = tie.close (tie.spec enum-told enum-told-2 returns returns-2)
+permissible-spec = tie.close (tie.spec returns returns-2)

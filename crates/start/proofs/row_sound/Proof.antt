@@ -9,7 +9,7 @@ permissible-requires c κs = search needs
 
 returns : tie.Need-returns
 unfolding maxOwner
-returns c = rw (c .before .before .before .before .before .before .permissible .ensures)
+returns c = rw (c .before .before .before .before .before .before .before .before .permissible .ensures)
 
 pub row-sound-spec : {M : Type 1} → statement M
 row-sound-spec = tie.close (tie.spec permissible-requires returns)

@@ -1,4 +1,0 @@
-pub mod Decoding
-pub mod Starting
-pub mod Judging
-pub mod ExampleLines

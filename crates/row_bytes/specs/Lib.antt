@@ -1,2 +1,0 @@
-pub mod RowBytes
-pub mod Examples
