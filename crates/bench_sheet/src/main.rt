@@ -143,7 +143,7 @@ fn grant(permitted: u32, first: u32, requested: u32) {
 }
 
 // The place 1/2/3 at an offset.
-fn address(offset: u16, width: u8) {
+fn address(offset: u32, width: u32) {
     let a = bridges::address(
         begin(0),
         SessionNumber(1),
@@ -216,10 +216,10 @@ fn register() {
 }
 
 // The record search in a slot's block, with an empty bridge's block.
-fn search(words: &[u8], slot: &[u8], kind: u8) {
-    let found = hpx::search(slot, &slot[..0], kind);
+fn search(words: &[u8], slot: &[u8], record_type: u32) {
+    let found = hpx::search(slot, &slot[..0], record_type);
     text(words);
-    decimal(b", type ", kind as u64);
+    decimal(b", type ", record_type as u64);
     decimal(b": number ", found.number as u64);
     decimal(b", start ", found.start as u64);
     decimal(b", length ", found.size as u64);

@@ -88,11 +88,11 @@ pub fn address(
     t: Table,
     s: SessionNumber,
     n: BridgeNumber,
-    bus: u8,
-    device: u8,
-    function: u8,
-    offset: u16,
-    width: u8,
+    bus: u32,
+    device: u32,
+    function: u32,
+    offset: u32,
+    width: u32,
 ) -> Addressed
     requires { ⌜ Sound t ⌝ }
     ensures { λ r. ⌜ (outcome (r .number) (addressed (r .address)) [] ≡ step t (on s n (address bus device function offset width)) .outcome)

@@ -1,4 +1,4 @@
-// ECAM configuration addresses of one host bridge: a place to its address and back.
+// ECAM configuration addresses of one host bridge: a place to its address and back. A place is asked for by u32 numbers: one that is too large is refused, never cut.
 use rules::Bridge;
 use rules::BridgeNumber;
 use rules::Place;
@@ -13,31 +13,31 @@ ghost use Rattle.ecam.specs.Fits.{PlaceFits};
 ghost use Rattle.rules.specs.Place.{addressOf, placeBad, busOutside, inWindow, placeOf};
 
 // Whether the width is not 1, 2 or 4, or the offset no multiple of it. By a mask, since one test serves the three widths.
-fn misaligned(offset: u16, width: u8) -> bool
+fn misaligned(offset: u32, width: u32) -> bool
     ensures { λ r. ⌜ r ≡ not (eqb width 1 || eqb width 2 || eqb width 4) || not (eqb (offset % width) 0) ⌝ }
 {
     if (width == 1) | (width == 2) | (width == 4) {
-        return (offset as u32) & ((width as u32) - 1) != 0;
+        return offset & (width - 1) != 0;
     }
     true
 }
 
 // Refusal 5.
-pub fn place_bad(device: u8, function: u8, offset: u16, width: u8) -> bool
+pub fn place_bad(device: u32, function: u32, offset: u32, width: u32) -> bool
     ensures { λ r. ⌜ r ≡ placeBad device function offset width ⌝ }
 {
     (31 < device) | (7 < function) | (4095 < offset) | misaligned(offset, width)
 }
 
 // Refusal 4 of an address.
-pub fn bus_outside(b: Bridge, bus: u8) -> bool
+pub fn bus_outside(b: Bridge, bus: u32) -> bool
     ensures { λ r. ⌜ r ≡ busOutside b bus ⌝ }
 {
-    (bus < b.first_bus) | (b.last_bus < bus)
+    (bus < (b.first_bus as u32)) | ((b.last_bus as u32) < bus)
 }
 
 // The address of a place that neither refuses, in a window that ends at 2^64 at most.
-pub fn address_of(b: Bridge, bus: u8, device: u8, function: u8, offset: u16) -> u64
+pub fn address_of(b: Bridge, bus: u32, device: u32, function: u32, offset: u32) -> u64
     requires { ⌜ PlaceFits b bus device function offset ⌝ }
     ensures { λ r. ⌜ r ≡ addressOf b bus device function offset ⌝ }
 {

@@ -23,13 +23,13 @@ fn record_part<'a>(slot: &'a [u8], block: &'a [u8], at: rules::Found) -> &'a [u8
 }
 
 // The record search, in one pass over the block. The struct holds a reference, so the proof walks the code by hand.
-pub fn find_record<'a>(slot: &'a [u8], block: &'a [u8], kind: u8) -> Found<'a>
-    ensures { λ r. ⌜ (r .number ≡ findRecord (now (slot .entry)) (now (block .entry)) kind .number)
-        × (now (r .part) ≡ part (findRecord (now (slot .entry)) (now (block .entry)) kind) (deciding (now (slot .entry)) (now (block .entry))))
-        × (r .part .ptr ≡ partAt (findRecord (now (slot .entry)) (now (block .entry)) kind)
+pub fn find_record<'a>(slot: &'a [u8], block: &'a [u8], record_type: u32) -> Found<'a>
+    ensures { λ r. ⌜ (r .number ≡ findRecord (now (slot .entry)) (now (block .entry)) record_type .number)
+        × (now (r .part) ≡ part (findRecord (now (slot .entry)) (now (block .entry)) record_type) (deciding (now (slot .entry)) (now (block .entry))))
+        × (r .part .ptr ≡ partAt (findRecord (now (slot .entry)) (now (block .entry)) record_type)
         (decidingAt (now (slot .entry)) (slot .entry .ptr) (block .entry .ptr))) ⌝ }
 {
-    let at = hpx::search(slot, block, kind);
+    let at = hpx::search(slot, block, record_type);
     Found {
         number: at.number,
         part: record_part(slot, block, at),

@@ -20,10 +20,10 @@ pub fn deciding<'a>(slot: &'a [u8], block: &'a [u8]) -> &'a [u8]
 }
 
 // The record search: its number, and the place of the record in the deciding block.
-pub fn search<'a>(slot: &'a [u8], block: &'a [u8], kind: u8) -> Found
-    ensures { λ r. ⌜ r ≡ findRecord (now (slot .entry)) (now (block .entry)) kind ⌝ }
+pub fn search<'a>(slot: &'a [u8], block: &'a [u8], record_type: u32) -> Found
+    ensures { λ r. ⌜ r ≡ findRecord (now (slot .entry)) (now (block .entry)) record_type ⌝ }
 {
-    records::search_block(deciding(slot, block), kind)
+    records::search_block(deciding(slot, block), record_type)
 }
 
 // Refusal 10: not 8 numbers, or Device Control or Link Control above 65535.

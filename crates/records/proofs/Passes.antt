@@ -70,12 +70,12 @@ onward Record true with-it without = refused 8
 onward Record false with-it without = with-it
 
 -- over any two tests: a field is sound, a field is a record
-module _ (sound rec : Field → Bool) (kind : ℕ) where
+module _ (sound rec : Field → Bool) (type : ℕ) where
   -- what the pass over these fields gives
   abbrev pass : Seen → Found → List Field → Found
   pass s found [] = found
   pass s found (f ∷ r) =
-      onward (judged (sound f) (rec f)) (has s (f .tag)) (pass (marked s (f .tag)) (choice kind f found) r) (pass s found r)
+      onward (judged (sound f) (rec f)) (has s (f .tag)) (pass (marked s (f .tag)) (choice type f found) r) (pass s found r)
 
   -- a walk that came to no end is refused
   abbrev pub passAll : Seen → Found → Option (List Field) → Found
@@ -93,7 +93,7 @@ module _ (rec : Field → Bool) where
 
   -- the field is the asked record
   abbrev asked : ℕ → Field → Bool
-  asked kind f = rec f && eqb (f .tag) kind
+  asked type f = rec f && eqb (f .tag) type
 
   -- before the first field no type has been seen
   all-unseen : (r : List Field) → every (unseen noneSeen) r ≡ true
@@ -107,29 +107,29 @@ orElse found (some f) = foundBy 0 (some f)
 
 -- ---- the pass from a field on
 
-module _ (sound rec : Field → Bool) (kind : ℕ) (s : Seen) (found : Found) (f : Field) where
+module _ (sound rec : Field → Bool) (type : ℕ) (s : Seen) (found : Found) (f : Field) where
   pub pass-skip : (o : Option (List Field)) → Skip ≡ judged (sound f) (rec f)
-      → passAll sound rec kind s found (prepend f o) ≡ passAll sound rec kind s found o
+      → passAll sound rec type s found (prepend f o) ≡ passAll sound rec type s found o
   pass-skip none e = refl
   pass-skip (some r) e = rw (← e)
 
   pub pass-record : (o : Option (List Field)) → Record ≡ judged (sound f) (rec f) → has s (f .tag) ≡ false
-      → passAll sound rec kind s found (prepend f o) ≡ passAll sound rec kind (marked s (f .tag)) (choice kind f found) o
+      → passAll sound rec type s found (prepend f o) ≡ passAll sound rec type (marked s (f .tag)) (choice type f found) o
   pass-record none e h = refl
   pass-record (some r) e h = rw (← e, h)
 
   pub pass-twice : (o : Option (List Field)) → Record ≡ judged (sound f) (rec f) → has s (f .tag) ≡ true
-      → refused 8 ≡ passAll sound rec kind s found (prepend f o)
+      → refused 8 ≡ passAll sound rec type s found (prepend f o)
   pass-twice none e h = refl
   pass-twice (some r) e h = rw (← e, h)
 
-  pub pass-bad : (o : Option (List Field)) → Bad ≡ judged (sound f) (rec f) → refused 8 ≡ passAll sound rec kind s found (prepend f o)
+  pub pass-bad : (o : Option (List Field)) → Bad ≡ judged (sound f) (rec f) → refused 8 ≡ passAll sound rec type s found (prepend f o)
   pass-bad none e = refl
   pass-bad (some r) e = rw (← e)
 
 -- ---- the whole pass
 
-module _ (sound rec : Field → Bool) (kind : ℕ) (small : (f : Field) → rec f ≡ true → leb (f .tag) 2 ≡ true) where
+module _ (sound rec : Field → Bool) (type : ℕ) (small : (f : Field) → rec f ≡ true → leb (f .tag) 2 ≡ true) where
   -- after a record is marked, a field is unseen if it was, and is no record of the same type
   one-marked : (s : Seen) (f g : Field) → rec f ≡ true
       → unseen rec (marked s (f .tag)) g ≡ (apart rec f g && unseen rec s g)
@@ -153,19 +153,19 @@ module _ (sound rec : Field → Bool) (kind : ℕ) (small : (f : Field) → rec 
   all-apart f p (g ∷ r) = rw p (all-apart f p r)
 
   -- no later field is the asked record where one was
-  none-later : (f : Field) → rec f ≡ true → eqb (f .tag) kind ≡ true → (r : List Field) → every (apart rec f) r ≡ true
-      → first (asked rec kind) r ≡ none
+  none-later : (f : Field) → rec f ≡ true → eqb (f .tag) type ≡ true → (r : List Field) → every (apart rec f) r ≡ true
+      → first (asked rec type) r ≡ none
   none-later f p k [] e = refl
   none-later f p k (g ∷ r) e =
       let h = and-true (apart rec f g) (every (apart rec f) r) e in
-      go (rec g) (eqb (g .tag) kind) refl (h .0) (none-later f p k r (h .1))
+      go (rec g) (eqb (g .tag) type) refl (h .0) (none-later f p k r (h .1))
     where
-      go : (b q : Bool) → eqb (g .tag) kind ≡ q → not (rec f && b && eqb (f .tag) (g .tag)) ≡ true → first (asked rec kind) r ≡ none
-          → cond (b && q) (some g) (first (asked rec kind) r) ≡ none
+      go : (b q : Bool) → eqb (g .tag) type ≡ q → not (rec f && b && eqb (f .tag) (g .tag)) ≡ true → first (asked rec type) r ≡ none
+          → cond (b && q) (some g) (first (asked rec type) r) ≡ none
       go false q i h ih = ih
       go true false i h ih = ih
       go true true i h ih =
-          let same : eqb (f .tag) (g .tag) ≡ true = eq-eqb (f .tag) (g .tag) (eqb-true (f .tag) kind k ∙ sym (eqb-true (g .tag) kind i)) in
+          let same : eqb (f .tag) (g .tag) ≡ true = eq-eqb (f .tag) (g .tag) (eqb-true (f .tag) type k ∙ sym (eqb-true (g .tag) type i)) in
           let z : false ≡ true = simp (p, same) at h in
           cc
 
@@ -173,13 +173,13 @@ module _ (sound rec : Field → Bool) (kind : ℕ) (small : (f : Field) → rec 
   abbrev whole : Seen → Found → List Field → Found
   whole s found r =
       cond (every sound r && pairwise (apart rec) r && every (unseen rec s) r)
-      (orElse found (first (asked rec kind) r)) (refused 8)
+      (orElse found (first (asked rec type) r)) (refused 8)
 
-  pass-whole : (r : List Field) (s : Seen) (found : Found) → pass sound rec kind s found r ≡ whole s found r
+  pass-whole : (r : List Field) (s : Seen) (found : Found) → pass sound rec type s found r ≡ whole s found r
   pass-whole [] s found = refl
   pass-whole (f ∷ r) s found =
-      go (sound f) (rec f) (has s (f .tag)) (eqb (f .tag) kind) refl refl (pass-whole r s found)
-      (pass-whole r (marked s (f .tag)) (choice kind f found))
+      go (sound f) (rec f) (has s (f .tag)) (eqb (f .tag) type) refl refl (pass-whole r s found)
+      (pass-whole r (marked s (f .tag)) (choice type f found))
     where
       E : Bool
       E = every sound r
@@ -194,42 +194,42 @@ module _ (sound rec : Field → Bool) (kind : ℕ) (small : (f : Field) → rec 
       U = every (unseen rec s) r
 
       F : Option Field
-      F = first (asked rec kind) r
+      F = first (asked rec type) r
 
-      go : (a b h k : Bool) → rec f ≡ b → eqb (f .tag) kind ≡ k → pass sound rec kind s found r ≡ whole s found r
-          → pass sound rec kind (marked s (f .tag)) (choice kind f found) r ≡ whole (marked s (f .tag)) (choice kind f found) r
-          → onward (judged a b) h (pass sound rec kind (marked s (f .tag)) (choice kind f found) r) (pass sound rec kind s found r)
+      go : (a b h k : Bool) → rec f ≡ b → eqb (f .tag) type ≡ k → pass sound rec type s found r ≡ whole s found r
+          → pass sound rec type (marked s (f .tag)) (choice type f found) r ≡ whole (marked s (f .tag)) (choice type f found) r
+          → onward (judged a b) h (pass sound rec type (marked s (f .tag)) (choice type f found) r) (pass sound rec type s found r)
           ≡ cond ((a && E) && (N && P) && (not (b && h) && U)) (orElse found (cond (b && k) (some f) F)) (refused 8)
       go false b h k p q x y = refl
       go true false h k p q x y = rw (all-apart f p r) x
       go true true true k p q x y = rw (and-off (E && (N && P)))
       go true true false k p q x y =
           y
-          ∙ ap (λ (t : Bool). cond (E && P && t) (orElse (choice kind f found) F) (refused 8)) (all-marked s f p r)
-          ∙ ap (λ (t : Bool). cond t (orElse (choice kind f found) F) (refused 8)) (regroup E N P U)
+          ∙ ap (λ (t : Bool). cond (E && P && t) (orElse (choice type f found) F) (refused 8)) (all-marked s f p r)
+          ∙ ap (λ (t : Bool). cond t (orElse (choice type f found) F) (refused 8)) (regroup E N P U)
           ∙ last k q
         where
           part : Found
           part = foundBy 0 (some f)
 
           -- the record found is the only one
-          only : eqb (f .tag) kind ≡ true → (n : Bool) → N ≡ n
+          only : eqb (f .tag) type ≡ true → (n : Bool) → N ≡ n
               → cond ((E && (n && P)) && U) (orElse part F) (refused 8) ≡ cond ((E && (n && P)) && U) part (refused 8)
           only i true e = rw (none-later f p i r e)
           only i false e = rw (and-off E)
 
-          last : (k : Bool) → eqb (f .tag) kind ≡ k
-              → cond ((E && (N && P)) && U) (orElse (choice kind f found) F) (refused 8)
+          last : (k : Bool) → eqb (f .tag) type ≡ k
+              → cond ((E && (N && P)) && U) (orElse (choice type f found) F) (refused 8)
               ≡ cond ((E && (N && P)) && U) (orElse found (cond k (some f) F)) (refused 8)
           last true e = rw e (only e N refl)
           last false e = rw e
 
   -- the answer of a whole pass, by the two refusals of the record search
   pub pass-answer : (r : List Field)
-      → pass sound rec kind noneSeen (refused 9) r
-      ≡ foundBy (firstOf ((8 if not (every sound r && pairwise (apart rec) r)) ∷ (9 if isNone (first (asked rec kind) r)) ∷ []))
-      (first (asked rec kind) r)
-  pass-answer r = pass-whole r noneSeen (refused 9) ∙ rw (all-unseen rec r) (go (every sound r && pairwise (apart rec) r) (first (asked rec kind) r))
+      → pass sound rec type noneSeen (refused 9) r
+      ≡ foundBy (firstOf ((8 if not (every sound r && pairwise (apart rec) r)) ∷ (9 if isNone (first (asked rec type) r)) ∷ []))
+      (first (asked rec type) r)
+  pass-answer r = pass-whole r noneSeen (refused 9) ∙ rw (all-unseen rec r) (go (every sound r && pairwise (apart rec) r) (first (asked rec type) r))
     where
       go : (t : Bool) (o : Option Field)
           → cond (t && true) (orElse (refused 9) o) (refused 8) ≡ foundBy (firstOf ((8 if not t) ∷ (9 if isNone o) ∷ [])) o

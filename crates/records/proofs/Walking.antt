@@ -55,79 +55,79 @@ after (suc n) l i f h k e =
 
 -- what the pass over these fields of the block gives
 abbrev pass : List ℕ → ℕ → Seen → Found → Option (List Field) → Found
-pass l kind = passAll (fieldSound l) (isRecord l) kind
+pass l type = passAll (fieldSound l) (isRecord l) type
 
 -- at place i, with these types seen and this found, at most `fuel` fields are left, and the pass over them gives the answer
-pub record Left (l : List ℕ) (kind i : ℕ) (s : Seen) (found : Found) : Type 0 where
+pub record Left (l : List ℕ) (type i : ℕ) (s : Seen) (found : Found) : Type 0 where
   pub fuel : ℕ
   pub enough : length l ≤ i + fuel
   pub inside : i ≤ length l
-  pub gives : pass l kind s found (fieldsFrom fuel l i) ≡ findRecord [] l kind
+  pub gives : pass l type s found (fieldsFrom fuel l i) ≡ findRecord [] l type
 
 -- the pass over all fields gives the answer
-answer : (l : List ℕ) (kind : ℕ) (o : Option (List Field))
-    → pass l kind noneSeen (refused 9) o
-    ≡ foundBy (firstOf ((8 if not (soundFields l o)) ∷ (9 if isNone (recordAmong l kind o)) ∷ [])) (recordAmong l kind o)
-answer l kind none = refl
-answer l kind (some r) = pass-answer (fieldSound l) (isRecord l) kind (λ f p. and-l (leb (f .tag) 2) (eqb (value l f 0) 1) p) r
+answer : (l : List ℕ) (type : ℕ) (o : Option (List Field))
+    → pass l type noneSeen (refused 9) o
+    ≡ foundBy (firstOf ((8 if not (soundFields l o)) ∷ (9 if isNone (recordAmong l type o)) ∷ [])) (recordAmong l type o)
+answer l type none = refl
+answer l type (some r) = pass-answer (fieldSound l) (isRecord l) type (λ f p. and-l (leb (f .tag) 2) (eqb (value l f 0) 1) p) r
 
 -- a block that is too long is refused
-pub too-long : (l : List ℕ) (kind : ℕ) → ltb maxBlock (length l) ≡ true → refused 8 ≡ findRecord [] l kind
+pub too-long : (l : List ℕ) (type : ℕ) → ltb maxBlock (length l) ≡ true → refused 8 ≡ findRecord [] l type
 unfolding blockSound
-too-long l kind e = rw (lt-leb (length l) maxBlock (ltb-true maxBlock (length l) e))
+too-long l type e = rw (lt-leb (length l) maxBlock (ltb-true maxBlock (length l) e))
 
 -- before the first field
-pub at-start : (l : List ℕ) (kind : ℕ) → ltb maxBlock (length l) ≡ false → Left l kind 0 noneSeen (refused 9)
+pub at-start : (l : List ℕ) (type : ℕ) → ltb maxBlock (length l) ≡ false → Left l type 0 noneSeen (refused 9)
 unfolding blockSound recordIn fieldsOf
-at-start l kind e =
+at-start l type e =
     record {
       fuel = length l;
       enough = omega arith;
       inside = omega arith;
-      gives = rw (le-leb (length l) maxBlock (ltb-false maxBlock (length l) e)) (answer l kind (fieldsFrom (length l) l 0));
+      gives = rw (le-leb (length l) maxBlock (ltb-false maxBlock (length l) e)) (answer l type (fieldsFrom (length l) l 0));
     }
 
-module _ (l : List ℕ) (kind i : ℕ) (s : Seen) (found : Found) (w : Left l kind i s found) where
+module _ (l : List ℕ) (type i : ℕ) (s : Seen) (found : Found) (w : Left l type i s found) where
   -- after the last field what was found is the answer
-  pub at-end : length l ≤ i → found ≡ findRecord [] l kind
-  at-end h = ap (pass l kind s found) (sym (no-more (w .fuel) l i (omega arith))) ∙ w .gives
+  pub at-end : length l ≤ i → found ≡ findRecord [] l type
+  at-end h = ap (pass l type s found) (sym (no-more (w .fuel) l i (omega arith))) ∙ w .gives
 
   module _ (h : i < length l) where
     -- a field that runs past the end refuses the block
-    pub ended : End ≡ fieldRead l i → refused 8 ≡ findRecord [] l kind
-    ended e = ap (pass l kind s found) (sym (cut (w .fuel) l i h e)) ∙ w .gives
+    pub ended : End ≡ fieldRead l i → refused 8 ≡ findRecord [] l type
+    ended e = ap (pass l type s found) (sym (cut (w .fuel) l i h e)) ∙ w .gives
 
     module _ (f : Field) (e : Whole f ≡ fieldRead l i) where
       rest : After (w .fuel) l i f
       rest = after (w .fuel) l i f h (w .enough) e
 
       -- the pass from this field on
-      here : pass l kind s found (prepend f (fieldsFrom (rest .left) l (3 + f .size + i))) ≡ findRecord [] l kind
-      here = ap (pass l kind s found) (sym (rest .is)) ∙ w .gives
+      here : pass l type s found (prepend f (fieldsFrom (rest .left) l (3 + f .size + i))) ≡ findRecord [] l type
+      here = ap (pass l type s found) (sym (rest .is)) ∙ w .gives
 
       -- a broken rule refuses the block, and so does a second record of a type
-      pub bad : Bad ≡ judged (fieldSound l f) (isRecord l f) → refused 8 ≡ findRecord [] l kind
-      bad j = pass-bad (fieldSound l) (isRecord l) kind s found f (fieldsFrom (rest .left) l (3 + f .size + i)) j ∙ here
+      pub bad : Bad ≡ judged (fieldSound l f) (isRecord l f) → refused 8 ≡ findRecord [] l type
+      bad j = pass-bad (fieldSound l) (isRecord l) type s found f (fieldsFrom (rest .left) l (3 + f .size + i)) j ∙ here
 
-      pub twice : Record ≡ judged (fieldSound l f) (isRecord l f) → has s (f .tag) ≡ true → refused 8 ≡ findRecord [] l kind
-      twice j k = pass-twice (fieldSound l) (isRecord l) kind s found f (fieldsFrom (rest .left) l (3 + f .size + i)) j k ∙ here
+      pub twice : Record ≡ judged (fieldSound l f) (isRecord l f) → has s (f .tag) ≡ true → refused 8 ≡ findRecord [] l type
+      twice j k = pass-twice (fieldSound l) (isRecord l) type s found f (fieldsFrom (rest .left) l (3 + f .size + i)) j k ∙ here
 
       -- the walk goes on after a skipped field, and after a record
-      pub skipped : Skip ≡ judged (fieldSound l f) (isRecord l f) → Left l kind (3 + f .size + i) s found
+      pub skipped : Skip ≡ judged (fieldSound l f) (isRecord l f) → Left l type (3 + f .size + i) s found
       skipped j =
           record {
             fuel = rest .left;
             enough = rest .enough;
             inside = field-fits l i f e .0;
-            gives = sym (pass-skip (fieldSound l) (isRecord l) kind s found f (fieldsFrom (rest .left) l (3 + f .size + i)) j) ∙ here;
+            gives = sym (pass-skip (fieldSound l) (isRecord l) type s found f (fieldsFrom (rest .left) l (3 + f .size + i)) j) ∙ here;
           }
 
       pub recorded : Record ≡ judged (fieldSound l f) (isRecord l f) → has s (f .tag) ≡ false
-          → Left l kind (3 + f .size + i) (marked s (f .tag)) (choice kind f found)
+          → Left l type (3 + f .size + i) (marked s (f .tag)) (choice type f found)
       recorded j k =
           record {
             fuel = rest .left;
             enough = rest .enough;
             inside = field-fits l i f e .0;
-            gives = sym (pass-record (fieldSound l) (isRecord l) kind s found f (fieldsFrom (rest .left) l (3 + f .size + i)) j k) ∙ here;
+            gives = sym (pass-record (fieldSound l) (isRecord l) type s found f (fieldsFrom (rest .left) l (3 + f .size + i)) j k) ∙ here;
           }

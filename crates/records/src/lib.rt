@@ -179,11 +179,11 @@ fn refusal(number: u8) -> Found
 }
 
 // A record of the asked type is what the search gives; any other leaves what it has.
-fn chosen(found: Found, f: Field, kind: u8) -> Found
+fn chosen(found: Found, f: Field, record_type: u32) -> Found
     requires { ⌜ 3 + f .size < 2 ^ 64 ⌝ }
-    ensures { λ r. ⌜ r ≡ choice kind f found ⌝ }
+    ensures { λ r. ⌜ r ≡ choice record_type f found ⌝ }
 {
-    if f.tag == kind {
+    if (f.tag as u32) == record_type {
         return Found {
             number: 0,
             start: f.start,
@@ -201,8 +201,8 @@ fn too_long(b: &[u8]) -> bool
 }
 
 // One pass over a block: sound or not, and the place of the asked record.
-pub fn search_block(b: &[u8], kind: u8) -> Found
-    ensures { λ r. ⌜ r ≡ findRecord [] (now (b .entry)) kind ⌝ }
+pub fn search_block(b: &[u8], record_type: u32) -> Found
+    ensures { λ r. ⌜ r ≡ findRecord [] (now (b .entry)) record_type ⌝ }
 {
     if too_long(b) {
         return refusal(8);
@@ -225,7 +225,7 @@ pub fn search_block(b: &[u8], kind: u8) -> Found
                     return refusal(8);
                 }
                 seen = mark(seen, f.tag);
-                found = chosen(found, f, kind);
+                found = chosen(found, f, record_type);
             }
             Judged::Bad => return refusal(8),
         }

@@ -182,11 +182,11 @@ fn address_refusal(
     row: Bridge,
     s: SessionNumber,
     n: BridgeNumber,
-    bus: u8,
-    device: u8,
-    function: u8,
-    offset: u16,
-    width: u8,
+    bus: u32,
+    device: u32,
+    function: u32,
+    offset: u32,
+    width: u32,
 ) -> u8
     ensures { λ r. ⌜ r ≡ numberAt bridges s n row (address bus device function offset width) ⌝ }
 {
@@ -208,11 +208,11 @@ pub fn address(
     row: Bridge,
     s: SessionNumber,
     n: BridgeNumber,
-    bus: u8,
-    device: u8,
-    function: u8,
-    offset: u16,
-    width: u8,
+    bus: u32,
+    device: u32,
+    function: u32,
+    offset: u32,
+    width: u32,
 ) -> Addressed
     requires { ⌜ RowSound bridges n row ⌝ }
     ensures { λ r. ⌜ outcome (r .number) (addressed (r .address)) [] ≡ outcomeAt bridges s n row (address bus device function offset width) ⌝ }

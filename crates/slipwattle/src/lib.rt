@@ -100,16 +100,17 @@ pub extern "C" fn slipwattle_report(t: &mut Table, s: SessionNumber, n: BridgeNu
     rows::report(t.count, t.bridges[i], s, n)
 }
 
+// The numbers of a place are u32, so that device 256 is refused and not taken for device 0.
 #[no_mangle]
 pub extern "C" fn slipwattle_address(
     t: &mut Table,
     s: SessionNumber,
     n: BridgeNumber,
-    bus: u8,
-    device: u8,
-    function: u8,
-    offset: u16,
-    width: u8,
+    bus: u32,
+    device: u32,
+    function: u32,
+    offset: u32,
+    width: u32,
 ) -> Addressed
     requires { ⌜ Sound (now t) ⌝ }
     ensures { λ r. ⌜ (outcome (r .number) (addressed (r .address)) [] ≡ step (now (t .entry)) (on s n (address bus device function offset width)) .outcome)
@@ -154,11 +155,16 @@ pub struct RecordAt {
     pub size: usize,
 }
 
+// The record type is u32, so that type 256 is refused and not taken for type 0.
 #[no_mangle]
-pub extern "C" fn slipwattle_find_record<'a>(slot: &'a [u8], block: &'a [u8], kind: u8) -> RecordAt
-    ensures { λ r. ⌜ r ≡ recordAt (now (slot .entry)) (now (block .entry)) kind ⌝ }
+pub extern "C" fn slipwattle_find_record<'a>(
+    slot: &'a [u8],
+    block: &'a [u8],
+    record_type: u32,
+) -> RecordAt
+    ensures { λ r. ⌜ r ≡ recordAt (now (slot .entry)) (now (block .entry)) record_type ⌝ }
 {
-    let found = hpx::search(slot, block, kind);
+    let found = hpx::search(slot, block, record_type);
     if found.number != 0 {
         return RecordAt {
             number: found.number,

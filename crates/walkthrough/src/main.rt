@@ -82,7 +82,7 @@ fn caller_and_bridge(words: &[u8], s: SessionNumber, n: BridgeNumber) {
     decimal(b", bridge ", n.0 as u64);
 }
 
-fn place(bus: u8, device: u8, function: u8, offset: u16) {
+fn place(bus: u32, device: u32, function: u32, offset: u32) {
     decimal(b", place ", bus as u64);
     decimal(b"/", device as u64);
     decimal(b"/", function as u64);
@@ -188,7 +188,7 @@ fn report(words: &[u8], t: Table, s: SessionNumber, n: BridgeNumber)
 }
 
 // The address of device 2, function 3, offset 0x10 on a bus, for a width of 4.
-fn address(words: &[u8], t: Table, s: SessionNumber, n: BridgeNumber, bus: u8) -> u64
+fn address(words: &[u8], t: Table, s: SessionNumber, n: BridgeNumber, bus: u32) -> u64
     requires { ⌜ Sound t ⌝ }
 {
     caller_and_bridge(words, s, n);
@@ -213,17 +213,22 @@ fn read_back(words: &[u8], t: Table, s: SessionNumber, address: u64)
     let p = l.place;
     if l.number == 0 {
         decimal(b"; bridge ", p.bridge.0 as u64);
-        place(p.bus, p.device, p.function, p.offset);
+        place(
+            p.bus as u32,
+            p.device as u32,
+            p.function as u32,
+            p.offset as u32,
+        );
     }
     end();
 }
 
-fn record<'a>(words: &[u8], slot: &'a [u8], block: &'a [u8], kind: u8) {
+fn record<'a>(words: &[u8], slot: &'a [u8], block: &'a [u8], record_type: u32) {
     text(words);
-    decimal(b" Type ", kind as u64);
+    decimal(b" Type ", record_type as u64);
     decimal(b", slot's block ", slot.len() as u64);
     decimal(b" bytes, bridge's ", block.len() as u64);
-    let found = hpx::search(slot, block, kind);
+    let found = hpx::search(slot, block, record_type);
     came(found.number);
     if found.number == 0 {
         if hpx::deciding(slot, block).len() == slot.len() {

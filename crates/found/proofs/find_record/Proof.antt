@@ -1,7 +1,7 @@
 -- `found::find_record` meets its contract: `hands-part` of crates/walks, at the search, the function that cuts the part, and the struct. Assumes nothing.
 use mathlib.Core.Path.{_≡_, refl, ap, _∙_}
 use mathlib.Core.List.{[], _∷_}
-use Rattle.walks.proofs.Kit.{emp, id⊢, fact-use, factI, w8, named, !, whole, sub, look-in}
+use Rattle.walks.proofs.Kit.{emp, id⊢, fact-use, factI, w32, named, !, whole, sub, look-in}
 use denote.Struct.Laws as LL
 use denote.Struct.Rest.{own-shut}
 use Rattle.rules.specs.Records.{deciding, findRecord, part, decidingAt, partAt}
@@ -46,7 +46,7 @@ holding = record {
 pub find-record-spec : {M : Type 1} → stated.statement M
 unfolding code.routine
 find-record-spec 𝓤 H 𝓜 𝓖 𝓡 =
-    hands-part 2 (number w8 ∷ []) place holding 𝓤 H 𝓜 𝓖 𝓡 (search.clauses 𝓤 H) (cut.clauses 𝓤 H) (own.clauses 𝓤 H) (λ κs (s, (b, (k, _))) p. p ≡ findRecord (s .now) (b .now) k) (λ κs a. tt) (λ κs a. tt) (λ κs a g. id⊢ 𝓤 _) (λ κs a p ws. id⊢ 𝓤 _)
+    hands-part 2 (number w32 ∷ []) place holding 𝓤 H 𝓜 𝓖 𝓡 (search.clauses 𝓤 H) (cut.clauses 𝓤 H) (own.clauses 𝓤 H) (λ κs (s, (b, (k, _))) p. p ≡ findRecord (s .now) (b .now) k) (λ κs a. tt) (λ κs a. tt) (λ κs a g. id⊢ 𝓤 _) (λ κs a p ws. id⊢ 𝓤 _)
     (λ κs (s, (b, (k, _))) p e. factI 𝓤 _ (emp 𝓤) (rw e (found-fits (s .now) (b .now) k)))
     (λ κs (s, (b, (k, _))) g p e r ws ws′. fact-use 𝓤 _ (id⊢ 𝓤 _) (λ i. factI 𝓤 _ _ (ap (λ (x : Place). x .number) e, i .0 ∙ ap (λ (x : Place). part x (deciding (s .now) (b .now))) e, i .1 ∙ ap (λ (x : Place). partAt x (decidingAt (s .now) (s .ptr) (b .ptr))) e)))
     code.env key.name code.function (code.unfolded 𝓤 H 𝓜 𝓡) search-def.name cut-def.name refl refl search-def.routine code.calls-hpx·search (search-thm.met 𝓤 H 𝓜 𝓖 𝓡) cut-def.routine code.calls-found·record-part (cut-thm.met 𝓤 H 𝓜 𝓖 𝓡)

@@ -16,10 +16,10 @@ use Rattle.records.proofs.search_block.Statement.{statement}
 use Rattle.records.proofs.search_block.Tie as tie
 
 abbrev Inv-loop : tie.InvT-loop
-Inv-loop b kind at₀ seen₀ found₀ at seen found = Left b kind at seen found
+Inv-loop b type at₀ seen₀ found₀ at seen found = Left b type at seen found
 
 abbrev μ-loop : tie.MeasureT-loop
-μ-loop b kind at₀ seen₀ found₀ at seen found = length b - at
+μ-loop b type at₀ seen₀ found₀ at seen found = length b - at
 
 -- at a field that was read whole: the block, the place, the field
 abbrev block : tie.After-f Inv-loop μ-loop → List ℕ
@@ -46,7 +46,7 @@ refusal-requires c κs = search needs
 returns : tie.Need-returns Inv-loop μ-loop
 returns c =
     let s = c .before .before .before .before in
-    c .refusal .ensures ∙ too-long (now (s .args .b)) (s .args .kind) (sym (c .before .before .too-long .ensures) ∙ c .before .if1 .taken)
+    c .refusal .ensures ∙ too-long (now (s .args .b)) (s .args .record-type) (sym (c .before .before .too-long .ensures) ∙ c .before .if1 .taken)
 
 refusal-requires-2 : tie.Need-refusal-requires-2 Inv-loop μ-loop
 refusal-requires-2 c κs = search needs
@@ -54,7 +54,7 @@ refusal-requires-2 c κs = search needs
 loop-holds : tie.Need-loop-holds Inv-loop μ-loop
 loop-holds c =
     let s = c .before .before .before .before in
-    rw (c .refusal2 .ensures) (at-start (now (s .args .b)) (s .args .kind) (sym (c .before .before .too-long .ensures) ∙ c .before .if1 .left))
+    rw (c .refusal2 .ensures) (at-start (now (s .args .b)) (s .args .record-type) (sym (c .before .before .too-long .ensures) ∙ c .before .if1 .left))
 
 read-field-requires : tie.Need-read-field-requires Inv-loop μ-loop
 read-field-requires c κs = search needs

@@ -1,7 +1,7 @@
 -- `slipwattle::slipwattle_address` meets its contract. Assumes nothing.
 use mathlib.Core.Path.{refl}
 use mathlib.Core.List.{[], _∷_, List}
-use Rattle.walks.proofs.Kit.{w8, w16, id⊢}
+use Rattle.walks.proofs.Kit.{w32, id⊢}
 use Rattle.rules.specs.Calls.{address, addressed}
 use Rattle.rows.proofs.Addressed as D
 use Rattle.rows.proofs.Addressed.Laws as D′
@@ -20,7 +20,7 @@ use Rattle.slipwattle.proofs.slipwattle_address.Code as code
 
 -- the parameters behind the bridge number
 abbrev Ps : List (Param 0)
-Ps = value (number w8) ∷ value (number w8) ∷ value (number w8) ∷ value (number w16) ∷ value (number w8) ∷ []
+Ps = value (number w32) ∷ value (number w32) ∷ value (number w32) ∷ value (number w32) ∷ value (number w32) ∷ []
 
 pub slipwattle-address-spec : {M : Type 1} → stated.statement M
 unfolding code.routine

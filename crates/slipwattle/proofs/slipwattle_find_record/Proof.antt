@@ -41,7 +41,7 @@ returns c =
     let a = f .before .before .before .args in
     let slot = now (a .slot) in
     let block = now (a .block) in
-    zeros slot (firstOf (recordRefusals slot block (a .kind))) (recordIn (deciding slot block) (a .kind)) (f .search .result) (f .search .ensures) (c .if1 .taken)
+    zeros slot (firstOf (recordRefusals slot block (a .record-type))) (recordIn (deciding slot block) (a .record-type)) (f .search .result) (f .search .ensures) (c .if1 .taken)
     ∙ ap (crossing slot) (f .search .ensures)
 
 returns-2 : tie.Need-returns-2
