@@ -1,26 +1,18 @@
 /* Slipwattle: one platform service for the PCI host bridges of several sessions.
  *
- * The number that each call gives first:
- *    0  done
- *    1  the bridge number is not in the table
- *    2  the bridge's owner is not the calling session
- *    3  _OSC framing: UUID not 16 bytes, Count 0 or above 8, capability length or answer length not 4 x Count
- *    4  the bus is outside the bridge's buses; or, reading an address back, it lies in no bridge of this session
- *    5  device above 31, function above 7, offset above 4095, width not 1, 2 or 4, or offset not a multiple of width
- *    6  the MCFG table is unsound
- *    7  the list of bridge rows is unsound
- *    8  the deciding record block is unsound
- *    9  that block has no revision 1 record of the asked type
- *   10  the register list is not 8 numbers, or its Device Control or Link Control is above 65535
- *   11  the bridge does not hold control bit 0
- * A call checks only the numbers listed at it, in that order, and gives the first that applies. A refused call hands back
- * zeros beside its number, and changes neither the table nor any buffer.
+ * Each call gives a number first, 0 where it is done and else why it is refused (enum slipwattle_refusal). A call checks only the numbers
+ * listed at it, in that order, and gives the first that applies. A refused call hands back zeros beside its number, and changes neither
+ * the table nor any buffer. The numbers of a place, a width and a record type are compared whole: device 256 does not pass for device 0.
+ * Session and bridge numbers and the small fields of a row are bytes: what is stored in them has been cut to a byte before it comes in.
  *
  * What the caller sees to, since C cannot:
  *  - A table comes only from slipwattle_start, and only these calls change it. It may be copied; its fields are not for the caller.
- *  - A pointer with a length leads to that many bytes (or numbers). Where the length is 0 the pointer may be NULL.
+ *  - A pointer with a length or a count leads to that many bytes, numbers or rows. Where that is 0 the pointer may be NULL.
  *  - What a call may change (the table, the answer buffer) overlaps nothing else that is lent to it, and no other thread uses it meanwhile.
- *    A call of which it is said below that the table stays as it is stores nothing into it: several threads may make such calls at once.
+ *    Several threads may at once make calls that take the table as const.
+ *
+ * What const rests on: it is proved that a call which takes the table as const leaves it as it was. That it stores nothing through the
+ * pointer, not even what stands there, is not proved; rust/tests/read_only.rs checks it on a table in read-only memory.
  */
 #ifndef SLIPWATTLE_H
 #define SLIPWATTLE_H
@@ -33,12 +25,101 @@
 extern "C" {
 #endif
 
-/* The most bridges that a table holds, the bytes of a row of the starting list, the registers of a type 2 record. */
+#define SLIPWATTLE_VERSION_MAJOR 0
+#define SLIPWATTLE_VERSION_MINOR 2
+#define SLIPWATTLE_VERSION_PATCH 0
+#define SLIPWATTLE_VERSION "0.2.0"
+
+/* The most rows of a starting list (a table has a bridge for each), and the registers of a type 2 record. */
 #define SLIPWATTLE_MAX_ROWS 16
-#define SLIPWATTLE_ROW_BYTES 10
 #define SLIPWATTLE_REGISTERS 8
 
-/* A session number and a bridge number are of different types, so that they cannot change places. */
+/* The number that each call gives. */
+enum slipwattle_refusal {
+    SLIPWATTLE_DONE = 0,
+    /* the bridge number is not in the table */
+    SLIPWATTLE_REFUSAL_NO_SUCH_BRIDGE = 1,
+    /* the bridge's owner is not the calling session */
+    SLIPWATTLE_REFUSAL_NOT_OWNER = 2,
+    /* _OSC framing: UUID not 16 bytes, Count 0 or above 8, capability length or answer length not 4 x Count */
+    SLIPWATTLE_REFUSAL_FRAMING = 3,
+    /* the bus is outside the bridge's buses; or, reading an address back, it lies in no bridge of this session */
+    SLIPWATTLE_REFUSAL_NO_SUCH_BUS = 4,
+    /* device above 31, function above 7, offset above 4095, width not 1, 2 or 4, or offset not a multiple of width */
+    SLIPWATTLE_REFUSAL_BAD_PLACE = 5,
+    /* the MCFG table is unsound */
+    SLIPWATTLE_REFUSAL_MCFG = 6,
+    /* the list of bridge rows is unsound */
+    SLIPWATTLE_REFUSAL_ROWS = 7,
+    /* the deciding record block is unsound */
+    SLIPWATTLE_REFUSAL_RECORD_BLOCK = 8,
+    /* that block has no revision 1 record of the asked type */
+    SLIPWATTLE_REFUSAL_NO_RECORD = 9,
+    /* the register list is not 8 numbers, or its Device Control or Link Control is above 65535 */
+    SLIPWATTLE_REFUSAL_REGISTERS = 10,
+    /* the bridge does not hold control bit 0, Express hot plug */
+    SLIPWATTLE_REFUSAL_NO_HOT_PLUG = 11
+};
+
+/* The number in words, for a person. */
+static inline const char *slipwattle_refusal_text(int number) {
+    switch (number) {
+    case SLIPWATTLE_DONE:
+        return "done";
+    case SLIPWATTLE_REFUSAL_NO_SUCH_BRIDGE:
+        return "the bridge number is not in the table";
+    case SLIPWATTLE_REFUSAL_NOT_OWNER:
+        return "the bridge's owner is not the calling session";
+    case SLIPWATTLE_REFUSAL_FRAMING:
+        return "_OSC framing: the UUID is not 16 bytes, Count is 0 or above 8, or a buffer's length is not 4 x Count";
+    case SLIPWATTLE_REFUSAL_NO_SUCH_BUS:
+        return "the bus is outside the bridge's buses, or the address lies in no bridge of this session";
+    case SLIPWATTLE_REFUSAL_BAD_PLACE:
+        return "device above 31, function above 7, offset above 4095, width not 1, 2 or 4, or offset not a multiple of width";
+    case SLIPWATTLE_REFUSAL_MCFG:
+        return "the MCFG table is unsound";
+    case SLIPWATTLE_REFUSAL_ROWS:
+        return "the list of bridge rows is unsound";
+    case SLIPWATTLE_REFUSAL_RECORD_BLOCK:
+        return "the deciding record block is unsound";
+    case SLIPWATTLE_REFUSAL_NO_RECORD:
+        return "the deciding record block has no revision 1 record of the asked type";
+    case SLIPWATTLE_REFUSAL_REGISTERS:
+        return "the register list is not 8 numbers, or its Device Control or Link Control is above 65535";
+    case SLIPWATTLE_REFUSAL_NO_HOT_PLUG:
+        return "the bridge does not hold control bit 0, Express hot plug";
+    default:
+        return "no call gives this number";
+    }
+}
+
+/* _OSC: its UUID as it stands in the buffer, its revision, and the Count of DWORDs: status, support, control. */
+static const uint8_t SLIPWATTLE_OSC_UUID[16] = {0x5B, 0x4D, 0xDB, 0x33, 0xF7, 0x1F, 0x1C, 0x40, 0x96, 0x57, 0x74, 0x41, 0xC0, 0x3D, 0xD7, 0x66};
+#define SLIPWATTLE_OSC_REVISION 1
+#define SLIPWATTLE_OSC_COUNT 3
+
+/* The first DWORD: in the capabilities the query flag; in the answer its status, 0 or one of the four. */
+#define SLIPWATTLE_QUERY_FLAG 0x01u
+#define SLIPWATTLE_STATUS_FAILURE 0x02u
+#define SLIPWATTLE_STATUS_UNKNOWN_UUID 0x04u
+#define SLIPWATTLE_STATUS_UNKNOWN_REVISION 0x08u
+#define SLIPWATTLE_STATUS_MASKED 0x10u
+
+/* The third DWORD: the control bits, 0 to 4, and all five. */
+#define SLIPWATTLE_CONTROL_EXPRESS_HOT_PLUG 0x01u
+#define SLIPWATTLE_CONTROL_SHPC_HOT_PLUG 0x02u
+#define SLIPWATTLE_CONTROL_PME 0x04u
+#define SLIPWATTLE_CONTROL_AER 0x08u
+#define SLIPWATTLE_CONTROL_EXPRESS_CAPABILITY 0x10u
+#define SLIPWATTLE_CONTROL_ALL 0x1Fu
+
+/* The kind of a host bridge. A conventional one permits no control bit but SHPC hot plug. */
+enum slipwattle_kind {
+    SLIPWATTLE_KIND_EXPRESS = 0,
+    SLIPWATTLE_KIND_CONVENTIONAL = 1
+};
+
+/* A session number and a bridge number are of different types, so that one does not pass for the other. */
 typedef struct {
     uint8_t number;
 } slipwattle_session;
@@ -46,6 +127,18 @@ typedef struct {
 typedef struct {
     uint8_t number;
 } slipwattle_bridge;
+
+/* A row of the starting list: the control bits that _OSC may grant, the PCI segment, the session that owns the bridge (0 to 15), its
+ * buses, and its kind (enum slipwattle_kind). With the fields by name:
+ *    {.permitted = SLIPWATTLE_CONTROL_ALL, .segment = 0, .owner = {1}, .first_bus = 0, .last_bus = 15, .kind = SLIPWATTLE_KIND_EXPRESS} */
+typedef struct {
+    uint32_t permitted;
+    uint16_t segment;
+    slipwattle_session owner;
+    uint8_t first_bus;
+    uint8_t last_bus;
+    uint8_t kind;
+} slipwattle_bridge_row;
 
 /* A host bridge as the table keeps it. For the calls alone. */
 typedef struct {
@@ -57,11 +150,11 @@ typedef struct {
     slipwattle_session owner;
     uint8_t first_bus;
     uint8_t last_bus;
-} slipwattle_row;
+} slipwattle_host_bridge;
 
 /* The table of host bridges. For the calls alone. */
 typedef struct {
-    slipwattle_row bridges[SLIPWATTLE_MAX_ROWS];
+    slipwattle_host_bridge bridges[SLIPWATTLE_MAX_ROWS];
     size_t count;
 } slipwattle_table;
 
@@ -73,17 +166,17 @@ typedef struct {
 /* Starts a table. Refusals: 6, 7; a refused start gives a table with no bridges, on which every call may be made.
  *
  * mcfg: the bytes of the ACPI MCFG table, header included.
- * rows: ten bytes for each bridge, little-endian: owner 1, segment 2, first bus 1, last bus 1, kind 1 (0 Express, 1 conventional),
- *    permitted control bits 4. Bridges are numbered from 0 in this order. A length that is no multiple of ten, or another kind, is 7.
+ * rows: the starting list, a row for each bridge. Bridges are numbered from 0 in this order. row_count counts rows, not bytes. More than
+ *    SLIPWATTLE_MAX_ROWS of them, or a kind that is none, is 7.
  */
-slipwattle_started slipwattle_start(const uint8_t *mcfg, size_t mcfg_length, const uint8_t *rows, size_t rows_length);
+slipwattle_started slipwattle_start(const uint8_t *mcfg, size_t mcfg_length, const slipwattle_bridge_row *rows, size_t row_count);
 
 /* Answers an _OSC call. Refusals: 1, 2, 3; a refused call leaves the answer buffer as it was.
  *
  * uuid: 16 bytes as they stand in the buffer. revision, count: the arguments of _OSC, count in DWORDs.
  * capabilities, answer: 4 x count bytes each, little-endian DWORDs: status, support, control. With 0 the answer is full: its status
- *    says of an unknown UUID (0x04), another revision (0x08), a count that is not 3 (0x02) or masked bits (0x10).
- * Without the query flag (bit 0 of the first DWORD) the granted bits join those held, the known support bits those supported.
+ *    says of an unknown UUID, another revision, a count that is not 3 (SLIPWATTLE_STATUS_FAILURE) or masked bits.
+ * Without SLIPWATTLE_QUERY_FLAG the granted bits join those held, the known support bits those supported.
  */
 uint8_t slipwattle_osc(slipwattle_table *table, slipwattle_session session, slipwattle_bridge bridge, uint32_t revision, uint32_t count,
                        const uint8_t *uuid, size_t uuid_length, const uint8_t *capabilities, size_t capabilities_length,
@@ -103,7 +196,7 @@ typedef struct {
 } slipwattle_reported;
 
 /* Hands back the bridge's held and supported bits. Refusals: 1, 2. The table stays as it is. */
-slipwattle_reported slipwattle_report(slipwattle_table *table, slipwattle_session session, slipwattle_bridge bridge);
+slipwattle_reported slipwattle_report(const slipwattle_table *table, slipwattle_session session, slipwattle_bridge bridge);
 
 typedef struct {
     uint8_t number;
@@ -112,8 +205,8 @@ typedef struct {
 
 /* The ECAM address of a place: base + bus x 2^20 + device x 2^15 + function x 2^12 + offset, for an access of width bytes.
  * Refusals: 1, 2, 5, 4. Address 0 may be given with number 0. The table stays as it is. */
-slipwattle_addressed slipwattle_address(slipwattle_table *table, slipwattle_session session, slipwattle_bridge bridge, uint8_t bus,
-                                        uint8_t device, uint8_t function, uint16_t offset, uint8_t width);
+slipwattle_addressed slipwattle_address(const slipwattle_table *table, slipwattle_session session, slipwattle_bridge bridge, uint32_t bus,
+                                        uint32_t device, uint32_t function, uint32_t offset, uint32_t width);
 
 typedef struct {
     slipwattle_bridge bridge;
@@ -129,7 +222,7 @@ typedef struct {
 } slipwattle_located;
 
 /* Reads an address back: the place that it leads to in a bridge of this session. Refusal: 4. The table stays as it is. */
-slipwattle_located slipwattle_locate(slipwattle_table *table, slipwattle_session session, uint64_t address);
+slipwattle_located slipwattle_locate(const slipwattle_table *table, slipwattle_session session, uint64_t address);
 
 typedef struct {
     uint8_t number;
@@ -141,10 +234,10 @@ typedef struct {
 /* Finds the revision 1 _HPX setting record of a type (0, 1 or 2). Refusals: 8, 9.
  *
  * slot, bridge_block: the slot's and the bridge's record blocks. If the slot's is not empty it alone decides.
- * The record is handed back as its place in the block that decided: whether that is the slot's, the byte where it starts, and its
- *    length, header included. It takes no table and no session. */
+ * What is handed back says where the record lies: whether the slot's block decided, the byte of the deciding block where it starts, and
+ *    its length, header included. The call takes no table and no session. */
 slipwattle_record slipwattle_find_record(const uint8_t *slot, size_t slot_length, const uint8_t *bridge_block, size_t bridge_block_length,
-                                         uint8_t type);
+                                         uint32_t type);
 
 typedef struct {
     uint8_t number;
@@ -158,7 +251,7 @@ typedef struct {
  *    numbers, not bytes.
  * New = (current AND mask) OR mask; where AER (control bit 3) is held all but Device Control and Link Control stay. Nothing is
  * written anywhere; the table stays as it is. */
-slipwattle_values slipwattle_register_values(slipwattle_table *table, slipwattle_session session, slipwattle_bridge bridge,
+slipwattle_values slipwattle_register_values(const slipwattle_table *table, slipwattle_session session, slipwattle_bridge bridge,
                                              const uint8_t *slot, size_t slot_length, const uint8_t *bridge_block,
                                              size_t bridge_block_length, const uint32_t *current, size_t current_length);
 

@@ -12,7 +12,8 @@
 //! # Example
 //!
 //! ```
-//! use slipwattle::{BridgeKind, BridgeNumber, BridgeRow, Refusal, SessionNumber, Table};
+//! use slipwattle::osc::{CONTROL_ALL, OSC_COUNT, OSC_REVISION, OSC_UUID, QUERY_FLAG};
+//! use slipwattle::{BridgeKind, BridgeNumber, BridgeRow, Place, Refusal, SessionNumber, Table};
 //!
 //! // One MCFG entry: base 0xE0000000, segment 0, buses 0 to 255.
 //! let mut mcfg = [0; 60];
@@ -22,41 +23,45 @@
 //! // A class bridge and a live one.
 //! let (class, live) = (SessionNumber(1), SessionNumber(2));
 //! let row = |owner, first_bus, last_bus| BridgeRow {
-//!     owner,
+//!     permitted: CONTROL_ALL,
 //!     segment: 0,
+//!     owner,
 //!     first_bus,
 //!     last_bus,
 //!     kind: BridgeKind::Express,
-//!     permitted: 0x1F,
 //! };
 //! let mut table = Table::start(&mcfg, &[row(class, 0, 15), row(live, 16, 31)])?;
 //! let (class_bridge, live_bridge) = (BridgeNumber(0), BridgeNumber(1));
 //!
 //! // _OSC: a query for every control bit, then the taking call for those that were granted.
-//! let uuid = *b"\x5B\x4D\xDB\x33\xF7\x1F\x1C\x40\x96\x57\x74\x41\xC0\x3D\xD7\x66";
-//! let mut answer = [0; 12];
-//! let query = [1, 0, 0, 0, 0x1F, 0, 0, 0, 0x1F, 0, 0, 0];
-//! table.osc(class, class_bridge, 1, 3, &uuid, &query, &mut answer)?;
-//! assert_eq!(answer, [0, 0, 0, 0, 0x1F, 0, 0, 0, 0x1F, 0, 0, 0]);
-//! let take = answer; // the query flag is 0 in it
-//! table.osc(class, class_bridge, 1, 3, &uuid, &take, &mut answer)?;
-//! assert_eq!(table.report(class, class_bridge)?.held, 0x1F);
+//! let mut ask = |status, control| -> Result<[u32; 3], Refusal> {
+//!     let capabilities = [status, 0, control].map(u32::to_le_bytes);
+//!     let mut answer = [[0; 4]; 3];
+//!     let (asked, answered) = (capabilities.as_flattened(), answer.as_flattened_mut());
+//!     table.osc(class, class_bridge, OSC_REVISION, OSC_COUNT, &OSC_UUID, asked, answered)?;
+//!     Ok(answer.map(u32::from_le_bytes))
+//! };
+//! let [status, _, granted] = ask(QUERY_FLAG, CONTROL_ALL)?;
+//! assert_eq!((status, granted), (0, CONTROL_ALL));
+//! ask(0, granted)?;
+//! assert_eq!(table.report(class, class_bridge)?.held, CONTROL_ALL);
 //!
 //! // An address, and the place that it leads to.
-//! let address = table.address(class, class_bridge, 1, 2, 3, 0x10, 4)?;
+//! let place = Place { bridge: class_bridge, bus: 1, device: 2, function: 3, offset: 0x10 };
+//! let address = table.address(class, place, 4)?;
 //! assert_eq!(address, 0xE011_3010);
-//! let place = table.locate(class, address)?;
-//! assert_eq!((place.bus, place.device, place.function), (1, 2, 3));
+//! assert_eq!(table.locate(class, address)?, place);
 //!
 //! // The class has no way to the live bridge.
-//! let refused = table.address(class, live_bridge, 17, 0, 0, 0, 4);
-//! assert_eq!(refused, Err(Refusal::NotOwner));
+//! let live_place = Place { bridge: live_bridge, bus: 17, ..place };
+//! assert_eq!(table.address(class, live_place, 4), Err(Refusal::NotOwner));
 //! # Ok::<(), Refusal>(())
 //! ```
 
 #![no_std]
 #![deny(missing_docs, clippy::undocumented_unsafe_blocks)]
 
+pub mod osc;
 mod records;
 mod refusal;
 pub mod sys;
@@ -65,5 +70,6 @@ mod types;
 
 pub use records::find_record;
 pub use refusal::Refusal;
+pub use sys::{MAX_ROWS, REGISTERS};
 pub use table::Table;
 pub use types::{BridgeKind, BridgeNumber, BridgeRow, Holding, Place, SessionNumber};

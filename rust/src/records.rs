@@ -22,7 +22,7 @@ use crate::sys;
 pub fn find_record<'a>(
     slot: &'a [u8],
     bridge_block: &'a [u8],
-    record_type: u8,
+    record_type: u32,
 ) -> Result<&'a [u8], Refusal> {
     // SAFETY: each pointer leads to its length of bytes, which the call only reads.
     let found = unsafe {

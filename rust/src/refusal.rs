@@ -2,6 +2,7 @@
 use core::fmt;
 
 /// Why a call was refused. Its number is that of document 01 and of the C header. A refused call changes neither the table nor any buffer.
+/// Later calls may have refusals of their own, so a `match` has an arm for the rest.
 ///
 /// ```
 /// use slipwattle::Refusal;
@@ -13,6 +14,7 @@ use core::fmt;
 /// );
 /// ```
 #[derive(Clone, Copy, Debug, PartialEq, Eq)]
+#[non_exhaustive]
 #[repr(u8)]
 pub enum Refusal {
     /// The bridge number is not in the table.

@@ -1,16 +1,15 @@
-//! The boundary itself: `include/slipwattle.h`, one to one. The header says what each call promises and what its caller sees to.
+//! The boundary itself: the types and the calls of `include/slipwattle.h`, one to one. The header says what each call promises and what
+//! its caller sees to.
 
 #[cfg(not(all(target_arch = "x86_64", target_pointer_width = "64", not(windows))))]
 compile_error!(
     "the proved library is machine code for x86-64 with the System V calling convention"
 );
 
-use core::mem::{offset_of, size_of};
+use core::mem::{align_of, offset_of, size_of};
 
-/// The most bridges that a table holds.
+/// The most rows of a starting list; a table has a bridge for each.
 pub const MAX_ROWS: usize = 16;
-/// The bytes of a row of the starting list.
-pub const ROW_BYTES: usize = 10;
 /// The registers of a type 2 record.
 pub const REGISTERS: usize = 8;
 
@@ -30,10 +29,28 @@ pub struct BridgeNumber {
     pub number: u8,
 }
 
-/// `slipwattle_row`: a host bridge as the table keeps it. For the calls alone.
+/// `slipwattle_bridge_row`: a row of the starting list.
 #[repr(C)]
 #[derive(Clone, Copy, Debug, PartialEq, Eq)]
-pub struct Row {
+pub struct BridgeRow {
+    /// The control bits that may be granted.
+    pub permitted: u32,
+    /// The PCI segment.
+    pub segment: u16,
+    /// The session that owns the bridge.
+    pub owner: SessionNumber,
+    /// The first bus.
+    pub first_bus: u8,
+    /// The last bus.
+    pub last_bus: u8,
+    /// The kind: 0 Express, 1 conventional; any other is refused.
+    pub kind: u8,
+}
+
+/// `slipwattle_host_bridge`: a host bridge as the table keeps it. For the calls alone.
+#[repr(C)]
+#[derive(Clone, Copy, Debug, PartialEq, Eq)]
+pub struct HostBridge {
     /// The ECAM base address of bus 0.
     pub base: u64,
     /// The control bits that may be granted.
@@ -57,7 +74,7 @@ pub struct Row {
 #[derive(Clone, Copy, Debug, PartialEq, Eq)]
 pub struct Table {
     /// The bridges by number.
-    pub bridges: [Row; MAX_ROWS],
+    pub bridges: [HostBridge; MAX_ROWS],
     /// How many bridges there are.
     pub count: usize,
 }
@@ -155,13 +172,24 @@ pub struct Values {
 // The layout that the calls are compiled for; tests/c/boundary.c has the same numbers.
 const _: () = {
     assert!(size_of::<SessionNumber>() == 1 && size_of::<BridgeNumber>() == 1);
-    assert!(size_of::<Row>() == 32);
-    assert!(offset_of!(Row, segment) == 20 && offset_of!(Row, last_bus) == 24);
-    assert!(size_of::<Table>() == 520 && offset_of!(Table, count) == 512);
+    assert!(size_of::<BridgeRow>() == 12 && align_of::<BridgeRow>() == 4);
+    assert!(offset_of!(BridgeRow, permitted) == 0 && offset_of!(BridgeRow, segment) == 4);
+    assert!(offset_of!(BridgeRow, owner) == 6 && offset_of!(BridgeRow, first_bus) == 7);
+    assert!(offset_of!(BridgeRow, last_bus) == 8 && offset_of!(BridgeRow, kind) == 9);
+    assert!(size_of::<HostBridge>() == 32 && align_of::<HostBridge>() == 8);
+    assert!(offset_of!(HostBridge, base) == 0 && offset_of!(HostBridge, permitted) == 8);
+    assert!(offset_of!(HostBridge, held) == 12 && offset_of!(HostBridge, supported) == 16);
+    assert!(offset_of!(HostBridge, segment) == 20 && offset_of!(HostBridge, owner) == 22);
+    assert!(offset_of!(HostBridge, first_bus) == 23 && offset_of!(HostBridge, last_bus) == 24);
+    assert!(size_of::<Table>() == 520 && align_of::<Table>() == 8);
+    assert!(offset_of!(Table, bridges) == 0 && offset_of!(Table, count) == 512);
     assert!(size_of::<Started>() == 528 && offset_of!(Started, number) == 520);
+    assert!(size_of::<Holding>() == 8 && offset_of!(Holding, supported) == 4);
     assert!(size_of::<Reported>() == 12 && offset_of!(Reported, holding) == 4);
     assert!(size_of::<Addressed>() == 16 && offset_of!(Addressed, address) == 8);
-    assert!(size_of::<Place>() == 6 && offset_of!(Place, offset) == 4);
+    assert!(size_of::<Place>() == 6 && offset_of!(Place, bus) == 1);
+    assert!(offset_of!(Place, device) == 2 && offset_of!(Place, function) == 3);
+    assert!(offset_of!(Place, offset) == 4);
     assert!(size_of::<Located>() == 8 && offset_of!(Located, place) == 2);
     assert!(size_of::<RecordAt>() == 24 && offset_of!(RecordAt, in_slot) == 1);
     assert!(offset_of!(RecordAt, start) == 8 && offset_of!(RecordAt, size) == 16);
@@ -173,8 +201,8 @@ unsafe extern "C" {
     pub fn slipwattle_start(
         mcfg: *const u8,
         mcfg_length: usize,
-        rows: *const u8,
-        rows_length: usize,
+        rows: *const BridgeRow,
+        row_count: usize,
     ) -> Started;
 
     /// Answers an _OSC call.
@@ -197,25 +225,25 @@ unsafe extern "C" {
 
     /// Hands back the bridge's held and supported bits.
     pub fn slipwattle_report(
-        table: *mut Table,
+        table: *const Table,
         session: SessionNumber,
         bridge: BridgeNumber,
     ) -> Reported;
 
     /// The ECAM address of a place.
     pub fn slipwattle_address(
-        table: *mut Table,
+        table: *const Table,
         session: SessionNumber,
         bridge: BridgeNumber,
-        bus: u8,
-        device: u8,
-        function: u8,
-        offset: u16,
-        width: u8,
+        bus: u32,
+        device: u32,
+        function: u32,
+        offset: u32,
+        width: u32,
     ) -> Addressed;
 
     /// Reads an address back.
-    pub fn slipwattle_locate(table: *mut Table, session: SessionNumber, address: u64) -> Located;
+    pub fn slipwattle_locate(table: *const Table, session: SessionNumber, address: u64) -> Located;
 
     /// Finds the revision 1 _HPX setting record of a type.
     pub fn slipwattle_find_record(
@@ -223,12 +251,12 @@ unsafe extern "C" {
         slot_length: usize,
         bridge_block: *const u8,
         bridge_block_length: usize,
-        record_type: u8,
+        record_type: u32,
     ) -> RecordAt;
 
     /// The new register values by the type 2 record of the blocks.
     pub fn slipwattle_register_values(
-        table: *mut Table,
+        table: *const Table,
         session: SessionNumber,
         bridge: BridgeNumber,
         slot: *const u8,

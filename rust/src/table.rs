@@ -2,18 +2,19 @@
 use core::fmt;
 
 use crate::refusal::{Refusal, done};
-use crate::sys::{self, MAX_ROWS, REGISTERS, ROW_BYTES};
+use crate::sys::{self, REGISTERS};
 use crate::types::{BridgeNumber, BridgeRow, Holding, Place, SessionNumber};
 
 /// The table of host bridges. It comes only from a start, and only the calls change it:
 ///
 /// ```compile_fail,E0423
-/// # fn by_hand(rows: slipwattle::sys::Table) -> slipwattle::Table {
-/// slipwattle::Table(rows)
+/// # fn by_hand(bridges: slipwattle::sys::Table) -> slipwattle::Table {
+/// slipwattle::Table(bridges)
 /// # }
 /// ```
 ///
-/// The calls that only read it may be made by several threads at once.
+/// The calls that take `&self` leave it as it was, which is proved, and may be made by several threads at once. That they store nothing
+/// into it, on which `&self` rests, is not proved: tests/read_only.rs makes them on a table in read-only memory.
 #[repr(transparent)]
 pub struct Table(sys::Table);
 
@@ -34,33 +35,16 @@ impl Table {
     /// # Ok::<(), Refusal>(())
     /// ```
     pub fn start(mcfg: &[u8], rows: &[BridgeRow]) -> Result<Table, Refusal> {
-        // One row above the limit is refused, so that none after it need be written.
-        let mut bytes = [0; (MAX_ROWS + 1) * ROW_BYTES];
-        let mut length = 0;
-        for (place, row) in bytes.chunks_exact_mut(ROW_BYTES).zip(rows) {
-            place.copy_from_slice(&row.bytes());
-            length += ROW_BYTES;
-        }
-        Table::start_bytes(mcfg, &bytes[..length])
-    }
-
-    /// Starts a table as [`start`](Table::start) does, from rows of ten bytes, little-endian: owner 1, segment 2, first bus 1, last
-    /// bus 1, kind 1 (0 Express, 1 conventional), permitted control bits 4.
-    ///
-    /// # Errors
-    ///
-    /// [`Mcfg`](Refusal::Mcfg), then [`Rows`](Refusal::Rows), which a length that is no multiple of ten and another kind are too.
-    ///
-    /// ```
-    #[doc = include_str!("example_start.txt")]
-    /// let table = Table::start_bytes(&mcfg, &[1, 0, 0, 0, 15, 0, 0x1F, 0, 0, 0])?;
-    /// assert_eq!(table.len(), 1);
-    /// # Ok::<(), Refusal>(())
-    /// ```
-    pub fn start_bytes(mcfg: &[u8], rows: &[u8]) -> Result<Table, Refusal> {
-        // SAFETY: each pointer leads to its length of bytes, which the call only reads.
-        let started =
-            unsafe { sys::slipwattle_start(mcfg.as_ptr(), mcfg.len(), rows.as_ptr(), rows.len()) };
+        // SAFETY: each pointer leads to its length of bytes, or of rows, which the call only reads. A row lies in memory as sys's does
+        // (the asserts at `BridgeRow`).
+        let started = unsafe {
+            sys::slipwattle_start(
+                mcfg.as_ptr(),
+                mcfg.len(),
+                rows.as_ptr().cast::<sys::BridgeRow>(),
+                rows.len(),
+            )
+        };
         done(started.number)?;
         Ok(Table(started.table))
     }
@@ -78,9 +62,9 @@ impl Table {
     /// Answers an _OSC call on a bridge of the session: `uuid` is 16 bytes as they stand in the buffer, `revision` and `count` are the
     /// call's arguments, `capabilities` and `answer` have 4 x `count` bytes each, little-endian DWORDs: status, support, control.
     ///
-    /// Where the call is done the answer is full, and its status DWORD says of an unknown UUID (0x04), another revision than 1 (0x08),
-    /// a count that is not 3 (0x02) or requested bits that were not granted (0x10). Without the query flag (bit 0 of the first DWORD)
-    /// the granted control bits join those held, and the known support bits those supported.
+    /// Where the call is done the answer is full, and its status DWORD is 0 or a status of [`osc`](crate::osc). Without the
+    /// [`QUERY_FLAG`](crate::osc::QUERY_FLAG) in the capabilities' first DWORD the granted control bits join those held, and the known
+    /// support bits those supported.
     ///
     /// # Errors
     ///
@@ -89,11 +73,12 @@ impl Table {
     ///
     /// ```
     #[doc = include_str!("example_start.txt")]
-    /// let mut answer = [0; 12];
-    /// let take = [0, 0, 0, 0, 0x1F, 0, 0, 0, 0x0D, 0, 0, 0];
-    /// table.osc(session, bridge, 1, 3, &uuid, &take, &mut answer)?;
-    /// // Hot plug, PME and AER are granted only with bit 4.
-    /// assert_eq!(answer, [0x10, 0, 0, 0, 0x1F, 0, 0, 0, 0, 0, 0, 0]);
+    /// // PME is granted only with the Express capability structure.
+    /// let take = [0, 0, CONTROL_PME].map(u32::to_le_bytes);
+    /// let mut answer = [[0; 4]; 3];
+    /// let (capabilities, filled) = (take.as_flattened(), answer.as_flattened_mut());
+    /// table.osc(session, bridge, OSC_REVISION, OSC_COUNT, &OSC_UUID, capabilities, filled)?;
+    /// assert_eq!(answer.map(u32::from_le_bytes), [STATUS_MASKED, 0, 0]);
     /// # Ok::<(), Refusal>(())
     /// ```
     #[expect(
@@ -154,16 +139,16 @@ impl Table {
     ///
     /// ```
     #[doc = include_str!("example_start.txt")]
-    /// let take = [0, 0, 0, 0, 0x03, 0, 0, 0, 0x1F, 0, 0, 0];
-    /// table.osc(session, bridge, 1, 3, &uuid, &take, &mut [0; 12])?;
+    /// let take = [0, 0x03, CONTROL_ALL].map(u32::to_le_bytes);
+    /// let (capabilities, answer) = (take.as_flattened(), &mut [0; 12]);
+    /// table.osc(session, bridge, OSC_REVISION, OSC_COUNT, &OSC_UUID, capabilities, answer)?;
     /// let holding = table.report(session, bridge)?;
-    /// assert_eq!((holding.held, holding.supported), (0x1F, 0x03));
+    /// assert_eq!((holding.held, holding.supported), (CONTROL_ALL, 0x03));
     /// # Ok::<(), Refusal>(())
     /// ```
     pub fn report(&self, session: SessionNumber, bridge: BridgeNumber) -> Result<Holding, Refusal> {
-        // SAFETY: the table comes from a start, and the call only reads it (see `read`).
-        let reported =
-            unsafe { sys::slipwattle_report(self.read(), session.lent(), bridge.lent()) };
+        // SAFETY: the table comes from a start, and the call only reads it.
+        let reported = unsafe { sys::slipwattle_report(&self.0, session.lent(), bridge.lent()) };
         done(reported.number)?;
         Ok(Holding {
             held: reported.holding.held,
@@ -172,7 +157,8 @@ impl Table {
     }
 
     /// The ECAM address of a place on a bridge of the session, for an access of `width` bytes:
-    /// base + bus x 2^20 + device x 2^15 + function x 2^12 + offset.
+    /// base + bus x 2^20 + device x 2^15 + function x 2^12 + offset. A place that [`locate`](Table::locate) gave, asked for with width 1,
+    /// gives its address again.
     ///
     /// # Errors
     ///
@@ -181,34 +167,29 @@ impl Table {
     ///
     /// ```
     #[doc = include_str!("example_start.txt")]
-    /// assert_eq!(table.address(session, bridge, 1, 2, 3, 4092, 4)?, 0xE011_3FFC);
-    /// assert_eq!(table.address(session, bridge, 1, 2, 3, 4094, 4), Err(Refusal::BadPlace));
+    /// let place = Place { bridge, bus: 1, device: 2, function: 3, offset: 4094 };
+    /// let address = table.address(session, place, 2)?;
+    /// assert_eq!(address, 0xE011_3FFE);
+    /// assert_eq!(table.address(session, place, 4), Err(Refusal::BadPlace));
+    /// assert_eq!(table.address(session, table.locate(session, address)?, 1)?, address);
     /// # Ok::<(), Refusal>(())
     /// ```
-    #[expect(
-        clippy::too_many_arguments,
-        reason = "they are those of the C call, and each is a number of its own"
-    )]
     pub fn address(
         &self,
         session: SessionNumber,
-        bridge: BridgeNumber,
-        bus: u8,
-        device: u8,
-        function: u8,
-        offset: u16,
-        width: u8,
+        place: Place,
+        width: u32,
     ) -> Result<u64, Refusal> {
-        // SAFETY: the table comes from a start, and the call only reads it (see `read`).
+        // SAFETY: the table comes from a start, and the call only reads it.
         let addressed = unsafe {
             sys::slipwattle_address(
-                self.read(),
+                &self.0,
                 session.lent(),
-                bridge.lent(),
-                bus,
-                device,
-                function,
-                offset,
+                place.bridge.lent(),
+                place.bus.into(),
+                place.device.into(),
+                place.function.into(),
+                place.offset.into(),
                 width,
             )
         };
@@ -230,8 +211,8 @@ impl Table {
     /// # Ok::<(), Refusal>(())
     /// ```
     pub fn locate(&self, session: SessionNumber, address: u64) -> Result<Place, Refusal> {
-        // SAFETY: the table comes from a start, and the call only reads it (see `read`).
-        let located = unsafe { sys::slipwattle_locate(self.read(), session.lent(), address) };
+        // SAFETY: the table comes from a start, and the call only reads it.
+        let located = unsafe { sys::slipwattle_locate(&self.0, session.lent(), address) };
         done(located.number)?;
         let place = located.place;
         Ok(Place {
@@ -248,8 +229,8 @@ impl Table {
     /// Mask and Severity, Correctable Error Mask, Advanced Error Capabilities and Control, Device Control, Link Control, Secondary
     /// Uncorrectable Error Severity and Mask.
     ///
-    /// A new value is (current AND mask) OR mask. Where the bridge holds AER (control bit 3) all but Device Control and Link Control
-    /// stay.
+    /// A new value is (current AND mask) OR mask. Where the bridge holds [`CONTROL_AER`](crate::osc::CONTROL_AER) all but Device Control
+    /// and Link Control stay.
     ///
     /// # Errors
     ///
@@ -258,9 +239,10 @@ impl Table {
     ///
     /// ```
     #[doc = include_str!("example_start.txt")]
-    /// // Control bits 0 and 4 are taken, and Device Control has AND 0xFFF0, OR 6.
-    /// let take = [0, 0, 0, 0, 0, 0, 0, 0, 0x11, 0, 0, 0];
-    /// table.osc(session, bridge, 1, 3, &uuid, &take, &mut [0; 12])?;
+    /// let take = [0, 0, CONTROL_EXPRESS_HOT_PLUG | CONTROL_EXPRESS_CAPABILITY].map(u32::to_le_bytes);
+    /// let (capabilities, answer) = (take.as_flattened(), &mut [0; 12]);
+    /// table.osc(session, bridge, OSC_REVISION, OSC_COUNT, &OSC_UUID, capabilities, answer)?;
+    /// // A type 2 record whose pair for Device Control is AND 0xFFF0, OR 6.
     /// let mut block = [0; 71];
     /// block[..4].copy_from_slice(&[2, 68, 0, 1]);
     /// block[39..47].copy_from_slice(&[0xF0, 0xFF, 0, 0, 6, 0, 0, 0]);
@@ -277,11 +259,11 @@ impl Table {
         bridge_block: &[u8],
         current: &[u32],
     ) -> Result<[u32; REGISTERS], Refusal> {
-        // SAFETY: the table comes from a start, and the call only reads it (see `read`). Each pointer leads to its length of bytes, or
-        // of numbers, which the call only reads.
+        // SAFETY: the table comes from a start, and the call only reads it. Each pointer leads to its length of bytes, or of numbers,
+        // which the call only reads.
         let values = unsafe {
             sys::slipwattle_register_values(
-                self.read(),
+                &self.0,
                 session.lent(),
                 bridge.lent(),
                 slot.as_ptr(),
@@ -294,12 +276,6 @@ impl Table {
         };
         done(values.number)?;
         Ok(values.values)
-    }
-
-    /// The table for the calls that leave it as it is. They take a pointer to change it by, but store nothing through it, so that a
-    /// shared borrow, in several threads at once, is enough; tests/read_only.rs makes them on a table in read-only memory.
-    fn read(&self) -> *mut sys::Table {
-        (&raw const self.0).cast_mut()
     }
 }
 

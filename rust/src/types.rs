@@ -1,4 +1,6 @@
 //! What the calls take and hand back.
+use core::mem::{align_of, offset_of, size_of};
+
 use crate::sys;
 
 /// A session number. A bridge number does not pass for it:
@@ -8,6 +10,7 @@ use crate::sys;
 /// table.report(bridge, session)?;
 /// # Ok::<(), Refusal>(())
 /// ```
+#[repr(transparent)]
 #[derive(Clone, Copy, Debug, PartialEq, Eq)]
 pub struct SessionNumber(pub u8);
 
@@ -28,44 +31,46 @@ impl BridgeNumber {
 }
 
 /// The kind of a host bridge.
+#[repr(u8)]
 #[derive(Clone, Copy, Debug, PartialEq, Eq)]
 pub enum BridgeKind {
     /// PCI Express.
-    Express,
-    /// Conventional PCI, which permits no control bit but 1.
-    Conventional,
+    Express = 0,
+    /// Conventional PCI, which permits no control bit but [`CONTROL_SHPC_HOT_PLUG`](crate::osc::CONTROL_SHPC_HOT_PLUG).
+    Conventional = 1,
 }
 
-/// A row of the starting list.
+/// A row of the starting list. It is laid out as the C header's, so that the list is lent as it stands.
+#[repr(C)]
 #[derive(Clone, Copy, Debug, PartialEq, Eq)]
 pub struct BridgeRow {
-    /// The session that owns the bridge, 0 to 15.
-    pub owner: SessionNumber,
+    /// The control bits that _OSC may grant, of those in [`osc`](crate::osc).
+    pub permitted: u32,
     /// The PCI segment.
     pub segment: u16,
+    /// The session that owns the bridge, 0 to 15.
+    pub owner: SessionNumber,
     /// The first bus.
     pub first_bus: u8,
     /// The last bus.
     pub last_bus: u8,
     /// The kind of bridge.
     pub kind: BridgeKind,
-    /// The control bits that _OSC may grant, bits 0 to 4.
-    pub permitted: u32,
 }
 
-impl BridgeRow {
-    /// The row as [`Table::start_bytes`](crate::Table::start_bytes) takes it.
-    pub(crate) fn bytes(&self) -> [u8; sys::ROW_BYTES] {
-        let [s0, s1] = self.segment.to_le_bytes();
-        let [p0, p1, p2, p3] = self.permitted.to_le_bytes();
-        let kind = match self.kind {
-            BridgeKind::Express => 0,
-            BridgeKind::Conventional => 1,
-        };
-        let (owner, first, last) = (self.owner.0, self.first_bus, self.last_bus);
-        [owner, s0, s1, first, last, kind, p0, p1, p2, p3]
-    }
-}
+// `Table::start` lends these rows as those of sys.
+const _: () = {
+    assert!(size_of::<BridgeRow>() == size_of::<sys::BridgeRow>());
+    assert!(align_of::<BridgeRow>() == align_of::<sys::BridgeRow>());
+    assert!(offset_of!(BridgeRow, permitted) == offset_of!(sys::BridgeRow, permitted));
+    assert!(offset_of!(BridgeRow, segment) == offset_of!(sys::BridgeRow, segment));
+    assert!(offset_of!(BridgeRow, owner) == offset_of!(sys::BridgeRow, owner));
+    assert!(offset_of!(BridgeRow, first_bus) == offset_of!(sys::BridgeRow, first_bus));
+    assert!(offset_of!(BridgeRow, last_bus) == offset_of!(sys::BridgeRow, last_bus));
+    assert!(offset_of!(BridgeRow, kind) == offset_of!(sys::BridgeRow, kind));
+    assert!(size_of::<SessionNumber>() == size_of::<sys::SessionNumber>());
+    assert!(size_of::<BridgeKind>() == size_of::<u8>());
+};
 
 /// What a bridge holds.
 #[derive(Clone, Copy, Debug, PartialEq, Eq)]
@@ -76,7 +81,7 @@ pub struct Holding {
     pub supported: u32,
 }
 
-/// The place that an address leads to.
+/// A place on a bridge.
 #[derive(Clone, Copy, Debug, PartialEq, Eq)]
 pub struct Place {
     /// The bridge.

@@ -1,19 +1,35 @@
-//! The calls that leave the table as it is store nothing into it, which `Table` rests on where it lends itself as `&self`: they are made
-//! on a table in read-only memory, where a store ends the program.
+//! The calls that take the table as const store nothing into it, on which C's const and the crate's `&self` rest: they are made on a table
+//! in read-only memory, where a store ends the program.
 mod fixture;
 
-use fixture::{UUID, mcfg};
+use fixture::mcfg;
+use slipwattle::BridgeKind;
+use slipwattle::osc::{
+    CONTROL_ALL, CONTROL_EXPRESS_CAPABILITY, CONTROL_EXPRESS_HOT_PLUG, OSC_COUNT, OSC_REVISION,
+    OSC_UUID,
+};
 use slipwattle::sys::{
-    BridgeNumber, MAX_ROWS, Row, SessionNumber, Table, slipwattle_address, slipwattle_locate,
-    slipwattle_osc, slipwattle_register_values, slipwattle_report, slipwattle_start,
+    BridgeNumber, BridgeRow, HostBridge, MAX_ROWS, SessionNumber, Table, slipwattle_address,
+    slipwattle_locate, slipwattle_osc, slipwattle_register_values, slipwattle_report,
+    slipwattle_start,
 };
 
 const OWNER: SessionNumber = SessionNumber { number: 1 };
 const OTHER: SessionNumber = SessionNumber { number: 2 };
 const BRIDGE: BridgeNumber = BridgeNumber { number: 0 };
-const NO_BRIDGE: BridgeNumber = BridgeNumber { number: 1 };
+const WITH_AER: BridgeNumber = BridgeNumber { number: 1 };
+const WITH_NOTHING: BridgeNumber = BridgeNumber { number: 2 };
+const NO_BRIDGE: BridgeNumber = BridgeNumber { number: 3 };
 
-const NO_ROW: Row = Row {
+/// What each bridge holds.
+const HELD: [u32; 3] = [
+    CONTROL_EXPRESS_HOT_PLUG | CONTROL_EXPRESS_CAPABILITY,
+    CONTROL_ALL,
+    0,
+];
+const SUPPORTED: u32 = 0x0F;
+
+const UNUSED: HostBridge = HostBridge {
     base: 0,
     permitted: 0,
     held: 0,
@@ -23,56 +39,67 @@ const NO_ROW: Row = Row {
     first_bus: 0,
     last_bus: 0,
 };
-const ROW: Row = Row {
-    base: 0xE000_0000,
-    permitted: 0x1F,
-    held: 0x11,
-    supported: 0x0F,
-    segment: 0,
-    owner: OWNER,
-    first_bus: 0,
-    last_bus: 15,
-};
 
-/// The table that `start` and a taking call give (`it_is_a_table_of_start`).
+/// Bridge `number`, of 16 buses, with what it holds.
+const fn host_bridge(number: u8) -> HostBridge {
+    HostBridge {
+        base: 0xE000_0000,
+        permitted: CONTROL_ALL,
+        held: HELD[number as usize],
+        supported: SUPPORTED,
+        segment: 0,
+        owner: OWNER,
+        first_bus: 16 * number,
+        last_bus: 16 * number + 15,
+    }
+}
+
+/// The table that `start` and taking calls give (`it_is_a_table_of_start`).
 static TABLE: Table = Table {
     bridges: {
-        let mut bridges = [NO_ROW; MAX_ROWS];
-        bridges[0] = ROW;
+        let mut bridges = [UNUSED; MAX_ROWS];
+        bridges[0] = host_bridge(0);
+        bridges[1] = host_bridge(1);
+        bridges[2] = host_bridge(2);
         bridges
     },
-    count: 1,
+    count: 3,
 };
-
-/// TABLE as a pointer to change it by.
-fn lent() -> *mut Table {
-    (&raw const TABLE).cast_mut()
-}
 
 #[test]
 fn it_is_a_table_of_start() {
     let mcfg = mcfg();
-    let rows = [1, 0, 0, 0, 15, 0, 0x1F, 0, 0, 0];
-    let take = [0, 0, 0, 0, 0x0F, 0, 0, 0, 0x11, 0, 0, 0];
-    let mut answer = [0; 12];
-    // SAFETY: each pointer leads to its length of bytes; the table comes from the start, and overlaps no buffer.
-    let table = unsafe {
-        let mut table = slipwattle_start(mcfg.as_ptr(), 60, rows.as_ptr(), 10).table;
-        slipwattle_osc(
-            &mut table,
-            OWNER,
-            BRIDGE,
-            1,
-            3,
-            UUID.as_ptr(),
-            16,
-            take.as_ptr(),
-            12,
-            answer.as_mut_ptr(),
-            12,
-        );
-        table
-    };
+    let rows = [0, 16, 32].map(|first_bus| BridgeRow {
+        permitted: CONTROL_ALL,
+        segment: 0,
+        owner: OWNER,
+        first_bus,
+        last_bus: first_bus + 15,
+        kind: BridgeKind::Express as u8,
+    });
+    // SAFETY: each pointer leads to its length of bytes or of rows.
+    let mut table =
+        unsafe { slipwattle_start(mcfg.as_ptr(), mcfg.len(), rows.as_ptr(), rows.len()) }.table;
+    for (bridge, held) in (0..).zip(HELD) {
+        let take = [0, SUPPORTED, held].map(u32::to_le_bytes);
+        let mut answer = [0; 12];
+        // SAFETY: the table comes from the start, each pointer leads to its length of bytes, and what is changed overlaps nothing.
+        unsafe {
+            slipwattle_osc(
+                &mut table,
+                OWNER,
+                BridgeNumber { number: bridge },
+                OSC_REVISION,
+                OSC_COUNT,
+                OSC_UUID.as_ptr(),
+                OSC_UUID.len(),
+                take.as_flattened().as_ptr(),
+                take.as_flattened().len(),
+                answer.as_mut_ptr(),
+                answer.len(),
+            );
+        }
+    }
     assert_eq!(table, TABLE);
 }
 
@@ -90,7 +117,7 @@ fn read_only(address: usize) -> bool {
 
 #[test]
 fn it_lies_in_read_only_memory() {
-    assert!(read_only(lent().addr()));
+    assert!(read_only((&raw const TABLE).addr()));
     assert!(!read_only((&raw const *Box::new(TABLE)).addr()));
 }
 
@@ -107,15 +134,15 @@ fn report_and_address_do_not_store() {
         // SAFETY: it is a table of start, which these calls are to leave as it is.
         let (reported, addressed) = unsafe {
             (
-                slipwattle_report(lent(), session, bridge),
-                slipwattle_address(lent(), session, bridge, 1, 2, 3, 0x10, 4),
+                slipwattle_report(&TABLE, session, bridge),
+                slipwattle_address(&TABLE, session, bridge, 1, 2, 3, 0x10, 4),
             )
         };
         assert_eq!((reported.number, addressed.number), (number, number));
     }
     for (bus, device, number) in [(1, 32, 5), (16, 2, 4)] {
         // SAFETY: as above.
-        let a = unsafe { slipwattle_address(lent(), OWNER, BRIDGE, bus, device, 3, 0x10, 4) };
+        let a = unsafe { slipwattle_address(&TABLE, OWNER, BRIDGE, bus, device, 3, 0x10, 4) };
         assert_eq!(a.number, number);
     }
 }
@@ -124,7 +151,7 @@ fn report_and_address_do_not_store() {
 fn locate_does_not_store() {
     for (session, number) in [(OWNER, 0), (OTHER, 4)] {
         // SAFETY: it is a table of start, which the call is to leave as it is.
-        let located = unsafe { slipwattle_locate(lent(), session, 0xE011_3010) };
+        let located = unsafe { slipwattle_locate(&TABLE, session, 0xE011_3010) };
         assert_eq!(located.number, number);
     }
 }
@@ -138,7 +165,7 @@ fn register_values_does_not_store() {
         // SAFETY: each pointer leads to its length; it is a table of start, which the call is to leave as it is.
         unsafe {
             slipwattle_register_values(
-                lent(),
+                &TABLE,
                 session,
                 bridge,
                 block.as_ptr(),
@@ -153,6 +180,8 @@ fn register_values_does_not_store() {
     for (session, bridge, number) in CALLERS {
         assert_eq!(values(session, bridge, &block, &current).number, number);
     }
+    assert_eq!(values(OWNER, WITH_AER, &block, &current).number, 0);
+    assert_eq!(values(OWNER, WITH_NOTHING, &block, &current).number, 11);
     assert_eq!(values(OWNER, BRIDGE, &block, &[]).number, 10);
     assert_eq!(values(OWNER, BRIDGE, &block[..70], &current).number, 8);
     assert_eq!(values(OWNER, BRIDGE, &[], &current).number, 9);

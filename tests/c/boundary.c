@@ -1,5 +1,6 @@
-/* The eight calls from C: numbers, results, buffers and tables as include/slipwattle.h promises them. Compiled as C11 and as C++17.
- * What is expected is worked out from document 01. */
+/* The eight calls from C: numbers, results, buffers and tables as include/slipwattle.h promises them, on either side of each limit.
+ * Compiled as C11 and as C++17. What is expected is worked out from document 01. */
+#include <assert.h>
 #include <stdio.h>
 #include <stdlib.h>
 #include <string.h>
@@ -19,23 +20,67 @@ static int failures = 0;
     } while (0)
 
 /* The layout that the calls are compiled for; rust/src/sys.rs has the same numbers. */
-#define LAYOUT(name, test) typedef char layout_##name[(test) ? 1 : -1]
-LAYOUT(numbers, sizeof(slipwattle_session) == 1 && sizeof(slipwattle_bridge) == 1);
-LAYOUT(row, sizeof(slipwattle_row) == 32 && offsetof(slipwattle_row, segment) == 20 && offsetof(slipwattle_row, last_bus) == 24);
-LAYOUT(table, sizeof(slipwattle_table) == 520 && offsetof(slipwattle_table, count) == 512);
-LAYOUT(started, sizeof(slipwattle_started) == 528 && offsetof(slipwattle_started, number) == 520);
-LAYOUT(reported, sizeof(slipwattle_reported) == 12 && offsetof(slipwattle_reported, holding) == 4);
-LAYOUT(addressed, sizeof(slipwattle_addressed) == 16 && offsetof(slipwattle_addressed, address) == 8);
-LAYOUT(place, sizeof(slipwattle_place) == 6 && offsetof(slipwattle_place, offset) == 4);
-LAYOUT(located, sizeof(slipwattle_located) == 8 && offsetof(slipwattle_located, place) == 2);
-LAYOUT(record, sizeof(slipwattle_record) == 24 && offsetof(slipwattle_record, in_slot) == 1);
-LAYOUT(part, offsetof(slipwattle_record, start) == 8 && offsetof(slipwattle_record, size) == 16);
-LAYOUT(values, sizeof(slipwattle_values) == 36 && offsetof(slipwattle_values, values) == 4);
+#define SIZE(type, size) static_assert(sizeof(type) == (size), #type)
+#define AT(type, field, offset) static_assert(offsetof(type, field) == (offset), #type "." #field)
+SIZE(slipwattle_session, 1);
+SIZE(slipwattle_bridge, 1);
+SIZE(slipwattle_bridge_row, 12);
+AT(slipwattle_bridge_row, permitted, 0);
+AT(slipwattle_bridge_row, segment, 4);
+AT(slipwattle_bridge_row, owner, 6);
+AT(slipwattle_bridge_row, first_bus, 7);
+AT(slipwattle_bridge_row, last_bus, 8);
+AT(slipwattle_bridge_row, kind, 9);
+SIZE(slipwattle_host_bridge, 32);
+AT(slipwattle_host_bridge, base, 0);
+AT(slipwattle_host_bridge, permitted, 8);
+AT(slipwattle_host_bridge, held, 12);
+AT(slipwattle_host_bridge, supported, 16);
+AT(slipwattle_host_bridge, segment, 20);
+AT(slipwattle_host_bridge, owner, 22);
+AT(slipwattle_host_bridge, first_bus, 23);
+AT(slipwattle_host_bridge, last_bus, 24);
+SIZE(slipwattle_table, 520);
+AT(slipwattle_table, bridges, 0);
+AT(slipwattle_table, count, 512);
+SIZE(slipwattle_started, 528);
+AT(slipwattle_started, table, 0);
+AT(slipwattle_started, number, 520);
+SIZE(slipwattle_holding, 8);
+AT(slipwattle_holding, held, 0);
+AT(slipwattle_holding, supported, 4);
+SIZE(slipwattle_reported, 12);
+AT(slipwattle_reported, number, 0);
+AT(slipwattle_reported, holding, 4);
+SIZE(slipwattle_addressed, 16);
+AT(slipwattle_addressed, number, 0);
+AT(slipwattle_addressed, address, 8);
+SIZE(slipwattle_place, 6);
+AT(slipwattle_place, bridge, 0);
+AT(slipwattle_place, bus, 1);
+AT(slipwattle_place, device, 2);
+AT(slipwattle_place, function, 3);
+AT(slipwattle_place, offset, 4);
+SIZE(slipwattle_located, 8);
+AT(slipwattle_located, number, 0);
+AT(slipwattle_located, place, 2);
+SIZE(slipwattle_record, 24);
+AT(slipwattle_record, number, 0);
+AT(slipwattle_record, in_slot, 1);
+AT(slipwattle_record, start, 8);
+AT(slipwattle_record, size, 16);
+SIZE(slipwattle_values, 36);
+AT(slipwattle_values, number, 0);
+AT(slipwattle_values, values, 4);
 
-static const uint8_t UUID[16] = {0x5B, 0x4D, 0xDB, 0x33, 0xF7, 0x1F, 0x1C, 0x40, 0x96, 0x57, 0x74, 0x41, 0xC0, 0x3D, 0xD7, 0x66};
+/* The bits by their numbers in document 01. */
+static_assert(SLIPWATTLE_CONTROL_EXPRESS_HOT_PLUG == 1u << 0 && SLIPWATTLE_CONTROL_SHPC_HOT_PLUG == 1u << 1, "hot plug");
+static_assert(SLIPWATTLE_CONTROL_PME == 1u << 2 && SLIPWATTLE_CONTROL_AER == 1u << 3, "PME, AER");
+static_assert(SLIPWATTLE_CONTROL_EXPRESS_CAPABILITY == 1u << 4 && SLIPWATTLE_CONTROL_ALL == (1u << 5) - 1, "the capability structure, all");
+static_assert(SLIPWATTLE_QUERY_FLAG == 1u << 0, "the query flag");
 
-/* Two rows: owner 1, buses 0 to 15, and owner 2, buses 16 to 31; segment 0, Express, permitted 0x1F. */
-static const uint8_t ROWS[20] = {1, 0, 0, 0, 15, 0, 0x1F, 0, 0, 0, 2, 0, 0, 16, 31, 0, 0x1F, 0, 0, 0};
+/* What register values need. */
+#define HOT_PLUG (SLIPWATTLE_CONTROL_EXPRESS_HOT_PLUG | SLIPWATTLE_CONTROL_EXPRESS_CAPABILITY)
 
 static slipwattle_session session(uint8_t n) {
     slipwattle_session s;
@@ -49,12 +94,24 @@ static slipwattle_bridge bridge(uint8_t n) {
     return b;
 }
 
-/* Every row and the count; the bytes between fields hold nothing. */
+/* A row of segment 0, Express, that permits every control bit. */
+static slipwattle_bridge_row row(uint8_t owner, uint8_t first_bus, uint8_t last_bus) {
+    slipwattle_bridge_row r;
+    r.permitted = SLIPWATTLE_CONTROL_ALL;
+    r.segment = 0;
+    r.owner = session(owner);
+    r.first_bus = first_bus;
+    r.last_bus = last_bus;
+    r.kind = SLIPWATTLE_KIND_EXPRESS;
+    return r;
+}
+
+/* Every bridge and the count; the bytes between fields hold nothing. */
 static bool same_table(const slipwattle_table *a, const slipwattle_table *b) {
     size_t i;
     for (i = 0; i < SLIPWATTLE_MAX_ROWS; i++) {
-        const slipwattle_row *x = &a->bridges[i];
-        const slipwattle_row *y = &b->bridges[i];
+        const slipwattle_host_bridge *x = &a->bridges[i];
+        const slipwattle_host_bridge *y = &b->bridges[i];
         if (x->base != y->base || x->permitted != y->permitted || x->held != y->held || x->supported != y->supported || x->segment != y->segment ||
             x->owner.number != y->owner.number || x->first_bus != y->first_bus || x->last_bus != y->last_bus) {
             return false;
@@ -63,9 +120,9 @@ static bool same_table(const slipwattle_table *a, const slipwattle_table *b) {
     return a->count == b->count;
 }
 
-/* A buffer of its own for each run of bytes, so that a checker of memory sees its end. */
-static uint8_t *lend(const uint8_t *bytes, size_t length) {
-    uint8_t *copy = (uint8_t *)malloc(length > 0 ? length : 1);
+/* A buffer of its own for what is lent, so that a checker of memory sees its end. */
+static void *lend(const void *bytes, size_t length) {
+    void *copy = malloc(length > 0 ? length : 1);
     if (copy == NULL) {
         exit(2);
     }
@@ -91,70 +148,140 @@ static void write_mcfg(uint8_t mcfg[60]) {
     mcfg[9] = (uint8_t)(0 - sum);
 }
 
-static slipwattle_started start(const uint8_t *rows, size_t length, bool sound) {
+static slipwattle_started start(const slipwattle_bridge_row *rows, size_t count, bool sound) {
     uint8_t mcfg[60];
     uint8_t *lent_mcfg;
-    uint8_t *lent_rows = lend(rows, length);
+    slipwattle_bridge_row *lent_rows = (slipwattle_bridge_row *)lend(rows, count * sizeof *rows);
     slipwattle_started s;
     write_mcfg(mcfg);
     if (!sound) {
         mcfg[9] ^= 1;
     }
-    lent_mcfg = lend(mcfg, sizeof mcfg);
-    s = slipwattle_start(lent_mcfg, sizeof mcfg, lent_rows, length);
+    lent_mcfg = (uint8_t *)lend(mcfg, sizeof mcfg);
+    s = slipwattle_start(lent_mcfg, sizeof mcfg, lent_rows, count);
     free(lent_mcfg);
     free(lent_rows);
     return s;
 }
 
-/* An _OSC call of Count 3 and revision 1; gives its number, and the answer's DWORDs where it is 0. */
-static uint8_t osc(slipwattle_table *t, uint8_t s, uint8_t b, uint8_t flags, uint8_t control, uint8_t answer[12]) {
-    uint8_t caps[12] = {0, 0, 0, 0, 0x1F, 0, 0, 0, 0, 0, 0, 0};
-    caps[0] = flags;
-    caps[8] = control;
-    return slipwattle_osc(t, session(s), bridge(b), 1, 3, UUID, sizeof UUID, caps, sizeof caps, answer, 12);
+static void starts_up_to_16_rows(void) {
+    slipwattle_bridge_row many[17];
+    uint8_t mcfg[60];
+    slipwattle_started s;
+    size_t i;
+    write_mcfg(mcfg);
+    for (i = 0; i < 17; i++) {
+        many[i] = row(1, (uint8_t)i, (uint8_t)i);
+    }
+    s = start(many, 16, true);
+    CHECK(s.number == 0 && s.table.count == 16);
+    s = start(many, 17, true);
+    CHECK(s.number == 7 && s.table.count == 0);
+    s = start(many, 17, false);
+    CHECK(s.number == 6 && s.table.count == 0);
+    s = slipwattle_start(mcfg, sizeof mcfg, NULL, 0);
+    CHECK(s.number == 0 && s.table.count == 0);
+    s = slipwattle_start(NULL, 0, NULL, 0);
+    CHECK(s.number == 6 && s.table.count == 0);
 }
 
-static void starts(void) {
-    uint8_t many[17 * SLIPWATTLE_ROW_BYTES];
-    size_t i;
+static uint8_t start_one(slipwattle_bridge_row r, uint32_t permitted, uint8_t kind) {
+    r.permitted = permitted;
+    r.kind = kind;
+    return start(&r, 1, true).number;
+}
+
+static void judges_each_field_of_a_row(void) {
+    const uint32_t all = SLIPWATTLE_CONTROL_ALL, shpc = SLIPWATTLE_CONTROL_SHPC_HOT_PLUG;
+    slipwattle_bridge_row r = row(1, 0, 15);
+    CHECK(start_one(r, all, 0) == 0);
+    CHECK(start_one(r, all + 1, 0) == 7);
+    CHECK(start_one(r, 0x80000000u, 0) == 7);
+    CHECK(start_one(r, shpc, 1) == 0);
+    CHECK(start_one(r, SLIPWATTLE_CONTROL_EXPRESS_HOT_PLUG, 1) == 7);
+    CHECK(start_one(r, all, 1) == 7);
+    CHECK(start_one(r, shpc, 2) == 7);
+    CHECK(start_one(r, shpc, 255) == 7);
+    CHECK(start_one(row(15, 0, 15), all, 0) == 0);
+    CHECK(start_one(row(16, 0, 15), all, 0) == 7);
+    CHECK(start_one(row(1, 255, 255), all, 0) == 0);
+    CHECK(start_one(row(1, 255, 254), all, 0) == 7);
+    r.segment = 0x0100;
+    CHECK(start_one(r, all, 0) == 7);
+    r.kind = 2;
+    CHECK(start(&r, 1, false).number == 6);
+}
+
+static void keeps_each_field_of_a_row(void) {
+    slipwattle_bridge_row r[2];
     slipwattle_started s;
-    memset(many, 0, sizeof many);
-    for (i = 0; i < 17; i++) {
-        many[10 * i + 3] = (uint8_t)i;
-        many[10 * i + 4] = (uint8_t)i;
-    }
-    s = start(many, 160, true);
-    CHECK(s.number == 0 && s.table.count == 16);
-    s = start(many, 170, true);
+    const slipwattle_host_bridge *b = &s.table.bridges[1];
+    r[0] = row(1, 0, 15);
+    r[1] = row(9, 32, 47);
+    r[1].permitted = SLIPWATTLE_CONTROL_PME;
+    s = start(r, 2, true);
+    CHECK(s.number == 0 && s.table.count == 2);
+    CHECK(b->base == 0xE0000000u && b->permitted == SLIPWATTLE_CONTROL_PME && b->held == 0 && b->supported == 0);
+    CHECK(b->segment == 0 && b->owner.number == 9 && b->first_bus == 32 && b->last_bus == 47);
+    r[1].first_bus = 15;
+    s = start(r, 2, true);
     CHECK(s.number == 7 && s.table.count == 0);
-    s = start(many, 170, false);
-    CHECK(s.number == 6 && s.table.count == 0);
-    s = start(many, 0, true);
-    CHECK(s.number == 0 && s.table.count == 0);
-    s = start(many, 19, true);
-    CHECK(s.number == 7);
-    many[5] = 2;
-    s = start(many, 10, true);
-    CHECK(s.number == 7);
-    s = start(many, 10, false);
-    CHECK(s.number == 6);
-    s = slipwattle_start(NULL, 0, NULL, 0);
-    CHECK(s.number == 6);
+}
+
+/* A taking call, or with the flag a query; gives its number, and where that is 0 the answer. */
+static uint8_t osc(slipwattle_table *t, uint8_t s, uint8_t b, uint32_t flag, uint32_t control, uint8_t answer[12]) {
+    uint8_t caps[12] = {0, 0, 0, 0, 0x1F, 0, 0, 0, 0, 0, 0, 0};
+    caps[0] = (uint8_t)flag;
+    caps[8] = (uint8_t)control;
+    return slipwattle_osc(t, session(s), bridge(b), SLIPWATTLE_OSC_REVISION, SLIPWATTLE_OSC_COUNT, SLIPWATTLE_OSC_UUID,
+                          sizeof SLIPWATTLE_OSC_UUID, caps, sizeof caps, answer, 12);
 }
 
 static void negotiates(slipwattle_table *t) {
     static const uint8_t granted[12] = {0, 0, 0, 0, 0x1F, 0, 0, 0, 0x1F, 0, 0, 0};
+    const uint32_t all = SLIPWATTLE_CONTROL_ALL, no_capability = all ^ SLIPWATTLE_CONTROL_EXPRESS_CAPABILITY ^ SLIPWATTLE_CONTROL_SHPC_HOT_PLUG;
     uint8_t answer[12];
     slipwattle_table before = *t;
     slipwattle_reported r;
     memset(answer, 0xAA, sizeof answer);
-    CHECK(osc(t, 1, 0, 1, 0x1F, answer) == 0 && memcmp(answer, granted, 12) == 0);
+    CHECK(osc(t, 1, 0, SLIPWATTLE_QUERY_FLAG, all, answer) == 0 && memcmp(answer, granted, 12) == 0);
     CHECK(same_table(t, &before));
-    CHECK(osc(t, 1, 0, 0, 0x0D, answer) == 0 && answer[0] == 0x10 && answer[8] == 0);
-    CHECK(osc(t, 1, 0, 0, 0x1F, answer) == 0 && memcmp(answer, granted, 12) == 0);
+    CHECK(osc(t, 1, 0, 0, no_capability, answer) == 0 && answer[0] == SLIPWATTLE_STATUS_MASKED && answer[8] == 0);
+    CHECK(osc(t, 1, 0, 0, all, answer) == 0 && memcmp(answer, granted, 12) == 0);
     r = slipwattle_report(t, session(1), bridge(0));
-    CHECK(r.number == 0 && r.holding.held == 0x1F && r.holding.supported == 0x1F);
+    CHECK(r.number == 0 && r.holding.held == all && r.holding.supported == 0x1F);
+}
+
+/* A taking call of session 1 for nothing, with these lengths; gives its number, or where that is 0 the answer's status and 256. */
+static unsigned framed(slipwattle_table *t, uint32_t revision, uint32_t count, size_t uuid, size_t capabilities, size_t answer) {
+    uint8_t lent_uuid[17], lent[2][40];
+    unsigned number;
+    memset(lent_uuid, 0, sizeof lent_uuid);
+    memcpy(lent_uuid, SLIPWATTLE_OSC_UUID, sizeof SLIPWATTLE_OSC_UUID);
+    memset(lent, 0, sizeof lent);
+    number = slipwattle_osc(t, session(1), bridge(0), revision, count, lent_uuid, uuid, lent[0], capabilities, lent[1], answer);
+    return number == 0 ? 256u + lent[1][0] : number;
+}
+
+static void frames(slipwattle_table *t) {
+    static const uint8_t zeros[16] = {0};
+    uint8_t answer[12];
+    CHECK(framed(t, 1, 3, 16, 12, 12) == 256);
+    CHECK(framed(t, 1, 3, 15, 12, 12) == 3);
+    CHECK(framed(t, 1, 3, 17, 12, 12) == 3);
+    CHECK(framed(t, 1, 3, 16, 11, 12) == 3);
+    CHECK(framed(t, 1, 3, 16, 13, 12) == 3);
+    CHECK(framed(t, 1, 3, 16, 12, 11) == 3);
+    CHECK(framed(t, 1, 3, 16, 12, 13) == 3);
+    CHECK(framed(t, 1, 0, 16, 0, 0) == 3);
+    CHECK(framed(t, 1, 1, 16, 4, 4) == 256 + SLIPWATTLE_STATUS_FAILURE);
+    CHECK(framed(t, 1, 8, 16, 32, 32) == 256 + SLIPWATTLE_STATUS_FAILURE);
+    CHECK(framed(t, 1, 9, 16, 36, 36) == 3);
+    CHECK(framed(t, 1, 0x40000003u, 16, 12, 12) == 3);
+    CHECK(framed(t, 0, 3, 16, 12, 12) == 256 + SLIPWATTLE_STATUS_UNKNOWN_REVISION);
+    CHECK(framed(t, 257, 3, 16, 12, 12) == 256 + SLIPWATTLE_STATUS_UNKNOWN_REVISION);
+    CHECK(framed(t, 65537, 3, 16, 12, 12) == 256 + SLIPWATTLE_STATUS_UNKNOWN_REVISION);
+    CHECK(slipwattle_osc(t, session(1), bridge(0), 1, 3, zeros, 16, zeros, 12, answer, 12) == 0 && answer[0] == SLIPWATTLE_STATUS_UNKNOWN_UUID);
 }
 
 /* Session 1 at the bridge of session 2: refused, and nothing changes. */
@@ -166,9 +293,9 @@ static void is_refused(slipwattle_table *t) {
     slipwattle_addressed a;
     size_t i;
     memset(answer, 0xAA, sizeof answer);
-    CHECK(osc(t, 1, 1, 0, 0x1F, answer) == 2);
-    CHECK(osc(t, 1, 2, 0, 0x1F, answer) == 1);
-    CHECK(slipwattle_osc(t, session(1), bridge(0), 1, 3, UUID, 15, capabilities, 12, answer, 12) == 3);
+    CHECK(osc(t, 1, 1, 0, SLIPWATTLE_CONTROL_ALL, answer) == 2);
+    CHECK(osc(t, 1, 2, 0, SLIPWATTLE_CONTROL_ALL, answer) == 1);
+    CHECK(slipwattle_osc(t, session(1), bridge(0), 1, 3, SLIPWATTLE_OSC_UUID, 15, capabilities, 12, answer, 12) == 3);
     CHECK(slipwattle_reset(t, session(1), bridge(1)) == 2);
     CHECK(slipwattle_reset(t, session(1), bridge(255)) == 1);
     r = slipwattle_report(t, session(1), bridge(1));
@@ -181,7 +308,7 @@ static void is_refused(slipwattle_table *t) {
     }
 }
 
-static void addresses(slipwattle_table *t) {
+static void addresses(const slipwattle_table *t) {
     slipwattle_addressed a = slipwattle_address(t, session(1), bridge(0), 1, 2, 3, 0x10, 4);
     slipwattle_located l = slipwattle_locate(t, session(1), 0xE0113010u);
     CHECK(a.number == 0 && a.address == 0xE0113010u);
@@ -190,57 +317,172 @@ static void addresses(slipwattle_table *t) {
     CHECK(l.number == 4 && l.place.bus == 0 && l.place.offset == 0);
     l = slipwattle_locate(t, session(2), 0xE1000000u);
     CHECK(l.number == 0 && l.place.bridge.number == 1 && l.place.bus == 16 && l.place.device == 0);
+    l = slipwattle_locate(t, session(2), 0xE0FFFFFFu);
+    CHECK(l.number == 4 && l.place.bridge.number == 0);
     a = slipwattle_address(t, session(1), bridge(0), 1, 2, 3, 4092, 4);
     CHECK(a.number == 0 && a.address == 0xE0113FFCu);
-    CHECK(slipwattle_address(t, session(1), bridge(0), 1, 2, 3, 4094, 4).number == 5);
-    CHECK(slipwattle_address(t, session(1), bridge(0), 16, 32, 3, 0, 4).number == 5);
-    CHECK(slipwattle_address(t, session(1), bridge(0), 16, 2, 3, 0, 4).number == 4);
 }
 
-static void records(slipwattle_table *t) {
-    static const uint8_t example[42] = {0, 0x14, 0, 1, 0, 0, 0, 8, 0, 0, 0, 0x40, 0, 0, 0, 1, 0, 0, 0, 0, 0,
-                                        0, 0, 1, 0x10, 0, 1, 0, 0, 0, 3, 0, 0, 0, 4, 0, 0, 0, 7, 0, 0, 0};
-    uint8_t settings[71];
-    uint32_t current[8] = {1, 2, 3, 4, 0x2110, 6, 7, 8};
-    slipwattle_record r = slipwattle_find_record(example, 42, NULL, 0, 1);
-    slipwattle_values v;
+/* The number of session 1's address call on bridge 0. */
+static uint8_t refusal_at(const slipwattle_table *t, uint32_t bus, uint32_t device, uint32_t function, uint32_t offset, uint32_t width) {
+    return slipwattle_address(t, session(1), bridge(0), bus, device, function, offset, width).number;
+}
+
+static void places_have_limits(const slipwattle_table *t) {
+    CHECK(refusal_at(t, 1, 31, 0, 0, 1) == 0);
+    CHECK(refusal_at(t, 1, 32, 0, 0, 1) == 5);
+    CHECK(refusal_at(t, 1, 256, 0, 0, 1) == 5);
+    CHECK(refusal_at(t, 1, 0xFFFFFFFFu, 0, 0, 1) == 5);
+    CHECK(refusal_at(t, 1, 0, 7, 0, 1) == 0);
+    CHECK(refusal_at(t, 1, 0, 8, 0, 1) == 5);
+    CHECK(refusal_at(t, 1, 0, 256, 0, 1) == 5);
+    CHECK(refusal_at(t, 1, 0, 0, 4095, 1) == 0);
+    CHECK(refusal_at(t, 1, 0, 0, 4096, 1) == 5);
+    CHECK(refusal_at(t, 1, 0, 0, 65552, 1) == 5);
+    CHECK(refusal_at(t, 1, 0, 0, 0, 0) == 5);
+    CHECK(refusal_at(t, 1, 0, 0, 0, 1) == 0);
+    CHECK(refusal_at(t, 1, 0, 0, 0, 2) == 0);
+    CHECK(refusal_at(t, 1, 0, 0, 0, 3) == 5);
+    CHECK(refusal_at(t, 1, 0, 0, 0, 4) == 0);
+    CHECK(refusal_at(t, 1, 0, 0, 0, 8) == 5);
+    CHECK(refusal_at(t, 1, 0, 0, 0, 257) == 5);
+    CHECK(refusal_at(t, 1, 0, 0, 4094, 2) == 0);
+    CHECK(refusal_at(t, 1, 0, 0, 4094, 4) == 5);
+    CHECK(refusal_at(t, 1, 0, 0, 4095, 2) == 5);
+}
+
+static void buses_have_limits(void) {
+    slipwattle_bridge_row from_0 = row(1, 0, 255), from_1 = row(1, 1, 255), to_254 = row(1, 0, 254);
+    slipwattle_started s = start(&from_0, 1, true);
+    CHECK(place(&s.table, 0, 0, 0, 0, 1) == 0);
+    CHECK(place(&s.table, 255, 0, 0, 0, 1) == 0);
+    CHECK(place(&s.table, 256, 0, 0, 0, 1) == 4);
+    CHECK(place(&s.table, 0xFFFFFFFFu, 0, 0, 0, 1) == 4);
+    s = start(&from_1, 1, true);
+    CHECK(place(&s.table, 0, 0, 0, 0, 1) == 4);
+    CHECK(place(&s.table, 1, 0, 0, 0, 1) == 0);
+    s = start(&to_254, 1, true);
+    CHECK(place(&s.table, 254, 0, 0, 0, 1) == 0);
+    CHECK(place(&s.table, 255, 0, 0, 0, 1) == 4);
+}
+
+/* Refusals 1, 2, 5, 4: of two that apply, the first listed. */
+static void places_are_refused_in_order(const slipwattle_table *t) {
+    CHECK(slipwattle_address(t, session(2), bridge(2), 256, 256, 0, 0, 4).number == 1);
+    CHECK(slipwattle_address(t, session(2), bridge(0), 256, 256, 0, 0, 4).number == 2);
+    CHECK(refusal_at(t, 256, 256, 0, 0, 4) == 5);
+    CHECK(refusal_at(t, 256, 0, 256, 0, 4) == 5);
+    CHECK(refusal_at(t, 256, 0, 0, 65552, 4) == 5);
+    CHECK(refusal_at(t, 256, 0, 0, 0, 257) == 5);
+    CHECK(refusal_at(t, 16, 32, 0, 0, 4) == 5);
+    CHECK(refusal_at(t, 16, 31, 7, 4092, 4) == 4);
+    CHECK(refusal_at(t, 256, 31, 7, 4092, 4) == 4);
+}
+
+/* The example of document 01: a type 0 and a type 1 record. */
+static const uint8_t EXAMPLE[42] = {0, 0x14, 0, 1, 0, 0, 0, 8, 0, 0, 0, 0x40, 0, 0, 0, 1, 0, 0, 0, 0, 0,
+                                    0, 0, 1, 0x10, 0, 1, 0, 0, 0, 3, 0, 0, 0, 4, 0, 0, 0, 7, 0, 0, 0};
+
+/* A type 2 record whose pairs are AND 0xFFF0, OR 6. */
+static void write_settings(uint8_t settings[71]) {
     size_t k;
-    CHECK(r.number == 0 && r.in_slot && r.start == 23 && r.size == 19);
-    r = slipwattle_find_record(NULL, 0, example, 42, 0);
-    CHECK(r.number == 0 && !r.in_slot && r.start == 0 && r.size == 23);
-    r = slipwattle_find_record(example, 42, example, 42, 2);
-    CHECK(r.number == 9 && !r.in_slot && r.start == 0 && r.size == 0);
-    r = slipwattle_find_record(example, 41, example, 42, 1);
-    CHECK(r.number == 8 && !r.in_slot && r.start == 0 && r.size == 0);
-    CHECK(slipwattle_find_record(NULL, 0, NULL, 0, 0).number == 9);
-    /* A type 2 record whose pairs are AND 0xFFF0, OR 6. */
-    memset(settings, 0, sizeof settings);
+    memset(settings, 0, 71);
     settings[0] = 2;
     settings[1] = 68;
     settings[3] = 1;
-    for (k = 0; k < 8; k++) {
+    for (k = 0; k < SLIPWATTLE_REGISTERS; k++) {
         settings[7 + 8 * k] = 0xF0;
         settings[8 + 8 * k] = 0xFF;
         settings[11 + 8 * k] = 6;
     }
+}
+
+static void finds_records(void) {
+    static const uint32_t types[3] = {0, 1, 2}, none[6] = {3, 255, 256, 0x101, 0x102, 0xFFFFFFFFu};
+    uint8_t block[42 + 71];
+    slipwattle_record r = slipwattle_find_record(EXAMPLE, 42, NULL, 0, 1);
+    size_t k;
+    memcpy(block, EXAMPLE, 42);
+    write_settings(block + 42);
+    CHECK(r.number == 0 && r.in_slot && r.start == 23 && r.size == 19);
+    r = slipwattle_find_record(NULL, 0, EXAMPLE, 42, 0);
+    CHECK(r.number == 0 && !r.in_slot && r.start == 0 && r.size == 23);
+    r = slipwattle_find_record(EXAMPLE, 42, block, sizeof block, 2);
+    CHECK(r.number == 9 && !r.in_slot && r.start == 0 && r.size == 0);
+    r = slipwattle_find_record(EXAMPLE, 41, EXAMPLE, 42, 1);
+    CHECK(r.number == 8 && !r.in_slot && r.start == 0 && r.size == 0);
+    CHECK(slipwattle_find_record(NULL, 0, NULL, 0, 0).number == 9);
+    for (k = 0; k < 3; k++) {
+        CHECK(slipwattle_find_record(block, sizeof block, NULL, 0, types[k]).number == 0);
+    }
+    for (k = 0; k < 6; k++) {
+        CHECK(slipwattle_find_record(block, sizeof block, NULL, 0, none[k]).number == 9);
+        CHECK(slipwattle_find_record(EXAMPLE, 41, NULL, 0, none[k]).number == 8);
+    }
+}
+
+static void computes_register_values(slipwattle_table *t) {
+    uint8_t settings[71], answer[12];
+    uint32_t current[9] = {1, 2, 3, 4, 0x2110, 6, 7, 8, 9};
+    slipwattle_values v;
+    write_settings(settings);
     v = slipwattle_register_values(t, session(1), bridge(0), settings, 71, NULL, 0, current, 8);
     CHECK(v.number == 0 && v.values[0] == 1 && v.values[4] == 0x2116 && v.values[5] == 6 && v.values[7] == 8);
-    v = slipwattle_register_values(t, session(1), bridge(0), example, 42, settings, 71, current, 8);
+    v = slipwattle_register_values(t, session(1), bridge(0), EXAMPLE, 42, settings, 71, current, 8);
     CHECK(v.number == 9 && v.values[4] == 0);
+    CHECK(slipwattle_register_values(t, session(1), bridge(0), settings, 70, NULL, 0, current, 8).number == 8);
     CHECK(slipwattle_register_values(t, session(1), bridge(0), settings, 71, NULL, 0, current, 7).number == 10);
+    CHECK(slipwattle_register_values(t, session(1), bridge(0), settings, 71, NULL, 0, current, 9).number == 10);
+    CHECK(slipwattle_register_values(t, session(1), bridge(0), settings, 71, NULL, 0, NULL, 0).number == 10);
     CHECK(slipwattle_register_values(t, session(2), bridge(1), settings, 71, NULL, 0, current, 8).number == 11);
     CHECK(slipwattle_register_values(t, session(2), bridge(0), settings, 71, NULL, 0, current, 8).number == 2);
+    current[4] = 65535;
+    current[5] = 65535;
+    CHECK(slipwattle_register_values(t, session(1), bridge(0), settings, 71, NULL, 0, current, 8).number == 0);
+    current[5] = 65536;
+    CHECK(slipwattle_register_values(t, session(1), bridge(0), settings, 71, NULL, 0, current, 8).number == 10);
+    /* Without AER the error registers take the record's bits too. */
+    CHECK(slipwattle_reset(t, session(1), bridge(0)) == 0 && osc(t, 1, 0, 0, HOT_PLUG, answer) == 0);
+    current[5] = 6;
+    v = slipwattle_register_values(t, session(1), bridge(0), settings, 71, NULL, 0, current, 8);
+    CHECK(v.number == 0 && v.values[0] == 6 && v.values[4] == 0xFFF6 && v.values[7] == 6);
+}
+
+static void has_a_text_for_each_number(void) {
+    const char *none = slipwattle_refusal_text(12);
+    int n, other;
+    for (n = SLIPWATTLE_DONE; n <= 12; n++) {
+        CHECK(slipwattle_refusal_text(n)[0] != '\0');
+        for (other = SLIPWATTLE_DONE; other < n; other++) {
+            CHECK(strcmp(slipwattle_refusal_text(n), slipwattle_refusal_text(other)) != 0);
+        }
+    }
+    CHECK(strcmp(slipwattle_refusal_text(255), none) == 0);
+    CHECK(strcmp(slipwattle_refusal_text(256), none) == 0);
+    CHECK(strcmp(slipwattle_refusal_text(-1), none) == 0);
 }
 
 int main(void) {
-    slipwattle_started s = start(ROWS, sizeof ROWS, true);
+    slipwattle_bridge_row rows[2];
+    slipwattle_started s;
     slipwattle_reported r;
-    starts();
+    rows[0] = row(1, 0, 15);
+    rows[1] = row(2, 16, 31);
+    s = start(rows, 2, true);
     CHECK(s.number == 0 && s.table.count == 2);
+    starts_up_to_16_rows();
+    judges_each_field_of_a_row();
+    keeps_each_field_of_a_row();
     negotiates(&s.table);
+    frames(&s.table);
     is_refused(&s.table);
     addresses(&s.table);
-    records(&s.table);
+    places_have_limits(&s.table);
+    buses_have_limits();
+    places_are_refused_in_order(&s.table);
+    finds_records();
+    computes_register_values(&s.table);
+    has_a_text_for_each_number();
     CHECK(slipwattle_reset(&s.table, session(1), bridge(0)) == 0);
     r = slipwattle_report(&s.table, session(1), bridge(0));
     CHECK(r.number == 0 && r.holding.held == 0 && r.holding.supported == 0);
