@@ -9,7 +9,7 @@ pub(crate) struct BusRange {
 }
 
 impl BusRange {
-    /// Fills list places that are not taken.
+    /// Fills the unused end of a list.
     pub(crate) const UNUSED: BusRange = BusRange {
         segment: 0,
         first: 0,
@@ -26,8 +26,8 @@ impl BusRange {
     }
 
     /// Whether the bus number is in the range.
-    pub(crate) fn contains(self, bus: u8) -> bool {
-        self.first <= bus && bus <= self.last
+    pub(crate) fn contains(self, bus: u32) -> bool {
+        u32::from(self.first) <= bus && bus <= u32::from(self.last)
     }
 
     /// Whether all of `inner` is in the range.

@@ -1,9 +1,11 @@
 //! Document 01 in ordinary Rust: what the random trials and the timings compare with.
 //!
-//! It shares nothing with the proved program but the document, whose sections the modules follow.
+//! It shares nothing with the proved program but the document, whose sections the modules follow, and the numbers of the two kinds of bridge, 0 and 1. Imports go one way: `bridge` is what
+//! the table keeps, others above it work on one bridge, and `table` is on top.
 #![no_std]
 #![forbid(unsafe_code)]
 
+mod bridge;
 mod buses;
 mod limits;
 mod list;
@@ -16,9 +18,10 @@ mod registers;
 mod rows;
 mod table;
 
+pub use bridge::{BridgeNumber, SessionNumber};
 pub use osc::granted;
 pub use place::Place;
 pub use records::find_record;
 pub use refusal::Refusal;
-pub use rows::{BridgeKind, BridgeRow};
-pub use table::{BridgeNumber, Holding, SessionNumber, Table};
+pub use rows::BridgeRow;
+pub use table::{Holding, Table};

@@ -11,10 +11,10 @@ pub(crate) const MAX_BLOCK: usize = 1024;
 /// Most DWORDs of an _OSC call.
 pub(crate) const MAX_COUNT: u32 = 8;
 /// Highest device number on a bus.
-pub(crate) const MAX_DEVICE: u8 = 31;
+pub(crate) const MAX_DEVICE: u32 = 31;
 /// Highest function number of a device.
-pub(crate) const MAX_FUNCTION: u8 = 7;
+pub(crate) const MAX_FUNCTION: u32 = 7;
 /// Highest offset in the configuration space of a function.
-pub(crate) const MAX_OFFSET: u16 = 4095;
+pub(crate) const MAX_OFFSET: u32 = 4095;
 /// Highest value of a 16-bit register.
 pub(crate) const MAX_WORD: u32 = 65535;

@@ -1,4 +1,4 @@
-//! A list of limited length, stored in place.
+//! A list of limited length, stored in itself.
 
 use core::ops::{Deref, DerefMut};
 
@@ -10,7 +10,7 @@ pub(crate) struct List<T, const N: usize> {
 }
 
 impl<T: Copy, const N: usize> List<T, N> {
-    /// The empty list; `unused` fills the places not yet taken.
+    /// The empty list; `unused` fills its unused end.
     pub(crate) fn new(unused: T) -> Self {
         List {
             items: [unused; N],

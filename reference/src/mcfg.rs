@@ -27,7 +27,7 @@ pub(crate) struct Entry {
 }
 
 impl Entry {
-    /// Fills list places that are not taken.
+    /// Fills the unused end of a list.
     const UNUSED: Entry = Entry {
         base: 0,
         first_address: 0,
@@ -41,10 +41,10 @@ impl Entry {
         let base = u64::from_le_bytes([b0, b1, b2, b3, b4, b5, b6, b7]);
         let buses = BusRange::new(u16::from_le_bytes([s0, s1]), start, end)?;
         // The window may end at 2^64, so it is kept by its last address and not by its end.
-        let last_address = base.checked_add(bus_start(end) | (BUS_BYTES - 1))?;
+        let last_address = base.checked_add(bus_start(end.into()) | (BUS_BYTES - 1))?;
         base.is_multiple_of(BUS_BYTES).then_some(Entry {
             base,
-            first_address: base + bus_start(start),
+            first_address: base + bus_start(start.into()),
             last_address,
             buses,
         })
@@ -63,7 +63,7 @@ pub(crate) fn no_entries() -> Entries {
     Entries::new(Entry::UNUSED)
 }
 
-/// Adds the entries of a table, in place; `None` when the table is unsound.
+/// Adds the entries of a table to a list; `None` when the table is unsound.
 pub(crate) fn read(mcfg: &[u8], entries: &mut Entries) -> Option<()> {
     let (header, body) = mcfg.split_first_chunk::<HEADER_BYTES>()?;
     let [m, c, f, g, l0, l1, l2, l3, revision, ..] = *header;

@@ -1,8 +1,8 @@
 //! Granting control: the _OSC call.
 
+use crate::bridge::Bridge;
 use crate::limits::MAX_COUNT;
 use crate::refusal::Refusal;
-use crate::table::Bridge;
 
 /// 33db4d5b-1ff7-401c-9657-7441c03dd766 as it stands in the buffer.
 const UUID: [u8; 16] = [

@@ -1,8 +1,8 @@
 //! Place and address.
 
+use crate::bridge::{Bridge, BridgeNumber};
 use crate::limits::{MAX_DEVICE, MAX_FUNCTION, MAX_OFFSET};
 use crate::refusal::Refusal;
-use crate::table::{Bridge, BridgeNumber};
 
 /// Where the bus number stands in an address.
 const BUS_SHIFT: u32 = 20;
@@ -29,7 +29,7 @@ pub struct Place {
 }
 
 /// Bytes from the base to the start of a bus.
-pub(crate) fn bus_start(bus: u8) -> u64 {
+pub(crate) fn bus_start(bus: u32) -> u64 {
     u64::from(bus) << BUS_SHIFT
 }
 
@@ -37,17 +37,17 @@ impl Bridge {
     /// The configuration address of a place, or refusal 5 or 4.
     pub(crate) fn address(
         &self,
-        bus: u8,
-        device: u8,
-        function: u8,
-        offset: u16,
-        width: u8,
+        bus: u32,
+        device: u32,
+        function: u32,
+        offset: u32,
+        width: u32,
     ) -> Result<u64, Refusal> {
         let sound = device <= MAX_DEVICE
             && function <= MAX_FUNCTION
             && offset <= MAX_OFFSET
             && matches!(width, 1 | 2 | 4)
-            && offset & (u16::from(width) - 1) == 0;
+            && offset & (width - 1) == 0;
         if !sound {
             return Err(Refusal::BadPlace);
         }
@@ -64,12 +64,13 @@ impl Bridge {
     pub(crate) fn locate(&self, number: BridgeNumber, address: u64) -> Option<Place> {
         let from_base = address.checked_sub(self.base)?;
         let bus = u8::try_from(from_base >> BUS_SHIFT).ok()?;
-        self.buses.contains(bus).then_some(Place {
+        let part = |shift, most| (from_base >> shift) as u32 & most;
+        self.buses.contains(bus.into()).then_some(Place {
             bridge: number,
             bus,
-            device: (from_base >> DEVICE_SHIFT) as u8 & MAX_DEVICE,
-            function: (from_base >> FUNCTION_SHIFT) as u8 & MAX_FUNCTION,
-            offset: from_base as u16 & MAX_OFFSET,
+            device: part(DEVICE_SHIFT, MAX_DEVICE) as u8,
+            function: part(FUNCTION_SHIFT, MAX_FUNCTION) as u8,
+            offset: part(0, MAX_OFFSET) as u16,
         })
     }
 }

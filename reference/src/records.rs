@@ -39,7 +39,7 @@ enum Field<'a> {
 pub fn find_record<'a>(
     slot: &'a [u8],
     bridge_block: &'a [u8],
-    record_type: u8,
+    record_type: u32,
 ) -> Result<&'a [u8], Refusal> {
     search(slot, bridge_block, record_type).map(|record| record.field)
 }
@@ -49,7 +49,7 @@ pub fn find_record<'a>(
 pub(crate) fn search<'a>(
     slot: &'a [u8],
     bridge_block: &'a [u8],
-    record_type: u8,
+    record_type: u32,
 ) -> Result<Record<'a>, Refusal> {
     let mut rest = if slot.is_empty() { bridge_block } else { slot };
     if rest.len() > MAX_BLOCK {
@@ -67,7 +67,8 @@ pub(crate) fn search<'a>(
         }
         rest = after;
     }
-    let found = records.get(usize::from(record_type)).copied().flatten();
+    let asked = usize::try_from(record_type).ok();
+    let found = asked.and_then(|tag| *records.get(tag)?);
     found.ok_or(Refusal::NoRecord)
 }
 

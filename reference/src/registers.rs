@@ -2,11 +2,11 @@
 
 use core::ops::Range;
 
+use crate::bridge::Bridge;
 use crate::limits::MAX_WORD;
 use crate::osc::{AER, EXPRESS_HOT_PLUG};
 use crate::records::{PCI_EXPRESS, search};
 use crate::refusal::Refusal;
-use crate::table::Bridge;
 
 /// The registers of the PCI Express setting record.
 const REGISTERS: usize = 8;
@@ -30,7 +30,7 @@ impl Bridge {
         if current[CONTROL].iter().any(|&value| value > MAX_WORD) {
             return Err(Refusal::Registers);
         }
-        let record = search(slot, bridge_block, PCI_EXPRESS)?;
+        let record = search(slot, bridge_block, PCI_EXPRESS.into())?;
         let (pairs, _) = record.numbers.as_chunks::<2>();
         let mut masked = *current;
         for (value, [and_mask, or_mask]) in masked.iter_mut().zip(pairs) {

@@ -1,22 +1,15 @@
 //! The rows of the starting list.
 
+use crate::bridge::{Bridge, SessionNumber};
 use crate::buses::BusRange;
 use crate::limits::MAX_OWNER;
 use crate::mcfg::Entry;
 use crate::osc::{KNOWN_BITS, SHPC_HOT_PLUG};
-use crate::table::{Bridge, SessionNumber};
 
-/// Bytes of a row that is lent as bytes.
-pub(crate) const ROW_BYTES: usize = 10;
-
-/// What hierarchy a host bridge starts.
-#[derive(Clone, Copy, Debug, PartialEq, Eq)]
-pub enum BridgeKind {
-    /// PCI Express.
-    Express,
-    /// PCI or PCI-X.
-    Conventional,
-}
+/// The kind of a host bridge that starts a PCI Express hierarchy.
+const EXPRESS: u8 = 0;
+/// The kind of one that starts a PCI or PCI-X hierarchy.
+const CONVENTIONAL: u8 = 1;
 
 /// One row of the starting list.
 #[derive(Clone, Copy, Debug, PartialEq, Eq)]
@@ -29,36 +22,19 @@ pub struct BridgeRow {
     pub first_bus: u8,
     /// Its last bus.
     pub last_bus: u8,
-    /// Express or conventional.
-    pub kind: BridgeKind,
+    /// 0 Express, 1 conventional.
+    pub kind: u8,
     /// The control bits that its owner may be granted.
     pub permitted: u32,
 }
 
 impl BridgeRow {
-    /// Reads a row; `None` when it is cut short or the kind is neither 0 nor 1.
-    pub(crate) fn read(bytes: &[u8]) -> Option<BridgeRow> {
-        let bytes: [u8; ROW_BYTES] = bytes.try_into().ok()?;
-        let [owner, s0, s1, first_bus, last_bus, kind, p0, p1, p2, p3] = bytes;
-        Some(BridgeRow {
-            owner: SessionNumber(owner),
-            segment: u16::from_le_bytes([s0, s1]),
-            first_bus,
-            last_bus,
-            kind: match kind {
-                0 => BridgeKind::Express,
-                1 => BridgeKind::Conventional,
-                _ => return None,
-            },
-            permitted: u32::from_le_bytes([p0, p1, p2, p3]),
-        })
-    }
-
     /// The bridge of a row that is sound by itself, with the base of its MCFG entry.
     pub(crate) fn bridge(&self, entries: &[Entry]) -> Option<Bridge> {
         let permissible = match self.kind {
-            BridgeKind::Express => KNOWN_BITS,
-            BridgeKind::Conventional => SHPC_HOT_PLUG,
+            EXPRESS => KNOWN_BITS,
+            CONVENTIONAL => SHPC_HOT_PLUG,
+            _ => return None,
         };
         if self.owner.0 > MAX_OWNER || self.permitted & !permissible != 0 {
             return None;

@@ -2,22 +2,14 @@
 
 use core::ops::Deref;
 
-use crate::buses::BusRange;
+use crate::bridge::{Bridge, BridgeNumber, SessionNumber};
 use crate::limits::MAX_ROWS;
 use crate::list::List;
 use crate::mcfg;
 use crate::osc::OscCall;
 use crate::place::Place;
 use crate::refusal::Refusal;
-use crate::rows::{BridgeRow, ROW_BYTES};
-
-/// The number of a session.
-#[derive(Clone, Copy, Debug, PartialEq, Eq)]
-pub struct SessionNumber(pub u8);
-
-/// The number of a bridge, from 0 in list order.
-#[derive(Clone, Copy, Debug, PartialEq, Eq)]
-pub struct BridgeNumber(pub u8);
+use crate::rows::BridgeRow;
 
 /// What a bridge holds.
 #[derive(Clone, Copy, Debug, PartialEq, Eq)]
@@ -26,29 +18,6 @@ pub struct Holding {
     pub held: u32,
     /// The support bits that its owner named.
     pub supported: u32,
-}
-
-/// One bridge of the table; no bit above 4 is ever permitted, held or supported.
-#[derive(Clone, Copy, Debug)]
-pub(crate) struct Bridge {
-    pub(crate) base: u64,
-    pub(crate) buses: BusRange,
-    pub(crate) owner: SessionNumber,
-    pub(crate) permitted: u8,
-    pub(crate) held: u8,
-    pub(crate) supported: u8,
-}
-
-impl Bridge {
-    /// Fills list places that are not taken.
-    const UNUSED: Bridge = Bridge {
-        base: 0,
-        buses: BusRange::UNUSED,
-        owner: SessionNumber(0),
-        permitted: 0,
-        held: 0,
-        supported: 0,
-    };
 }
 
 /// The bridges, in list order.
@@ -78,29 +47,14 @@ impl Table {
         }
     }
 
-    /// Starts a table from rows, or gives refusal 6 or 7.
+    /// Starts a table, or gives refusal 6 or 7.
     #[inline(never)]
     pub fn start(mcfg: &[u8], rows: &[BridgeRow]) -> Result<Table, Refusal> {
-        Table::from_rows(mcfg, rows.iter().copied().map(Some))
-    }
-
-    /// Starts a table from rows lent as bytes, ten for each, or gives refusal 6 or 7.
-    #[inline(never)]
-    pub fn start_bytes(mcfg: &[u8], rows: &[u8]) -> Result<Table, Refusal> {
-        Table::from_rows(mcfg, rows.chunks(ROW_BYTES).map(BridgeRow::read))
-    }
-
-    /// Starts a table; `None` stands for a row that could not be read.
-    #[inline]
-    fn from_rows(
-        mcfg: &[u8],
-        rows: impl Iterator<Item = Option<BridgeRow>>,
-    ) -> Result<Table, Refusal> {
         let mut entries = mcfg::no_entries();
         mcfg::read(mcfg, &mut entries).ok_or(Refusal::Mcfg)?;
         let mut table = Table::empty();
         for row in rows {
-            let bridge = row.and_then(|row| row.bridge(&entries));
+            let bridge = row.bridge(&entries);
             let added = bridge.and_then(|bridge| table.add(bridge));
             added.ok_or(Refusal::Rows)?;
         }
@@ -188,11 +142,11 @@ impl Table {
         &self,
         session: SessionNumber,
         bridge: BridgeNumber,
-        bus: u8,
-        device: u8,
-        function: u8,
-        offset: u16,
-        width: u8,
+        bus: u32,
+        device: u32,
+        function: u32,
+        offset: u32,
+        width: u32,
     ) -> Result<u64, Refusal> {
         self.bridge(session, bridge)?
             .address(bus, device, function, offset, width)

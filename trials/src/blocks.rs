@@ -148,8 +148,8 @@ fn spoil_fields(random: &mut Random, fields: &mut Vec<Vec<u8>>) {
         3 => *chosen = wrong_length(random),
         4 => chosen[0] = random.pick(&[0, 1, 2, 3]),
         _ => {
-            let place = random.below(chosen.len());
-            chosen[place] = random.byte();
+            let index = random.below(chosen.len());
+            chosen[index] = random.byte();
         }
     }
 }
@@ -158,9 +158,9 @@ fn spoil_fields(random: &mut Random, fields: &mut Vec<Vec<u8>>) {
 fn beyond_limit(random: &mut Random) -> Vec<u8> {
     let record_type = random.below(3);
     let mut numbers = numbers_within(random, record_type);
-    let place = random.below(numbers.len());
-    let limit = LIMITS[record_type][place];
-    numbers[place] = random.pick(&[limit.wrapping_add(1), limit | 0x8000_0000]);
+    let index = random.below(numbers.len());
+    let limit = LIMITS[record_type][index];
+    numbers[index] = random.pick(&[limit.wrapping_add(1), limit | 0x8000_0000]);
     numbers_field(record_type as u8, 1, &numbers)
 }
 

@@ -2,7 +2,20 @@
 
 /// Guard items on either side. Odd, so that lent bytes start at an odd address.
 pub const GUARD: usize = 13;
-const PATTERN: u8 = 0xA5;
+
+/// What a buffer is a list of.
+pub trait Item: Copy {
+    /// What stands in a guard.
+    const PATTERN: Self;
+}
+
+impl Item for u8 {
+    const PATTERN: u8 = 0xA5;
+}
+
+impl Item for u32 {
+    const PATTERN: u32 = 0xA5A5_A5A5;
+}
 
 pub type Bytes = Buffer<u8>;
 pub type Words = Buffer<u32>;
@@ -14,12 +27,12 @@ pub struct Buffer<T> {
     guard: usize,
 }
 
-impl<T: Copy + From<u8>> Buffer<T> {
+impl<T: Item> Buffer<T> {
     pub fn guarded(content: &[T], guard: usize) -> Buffer<T> {
         let mut whole = Vec::with_capacity(content.len() + 2 * guard);
-        whole.resize(guard, T::from(PATTERN));
+        whole.resize(guard, T::PATTERN);
         whole.extend_from_slice(content);
-        whole.resize(content.len() + 2 * guard, T::from(PATTERN));
+        whole.resize(content.len() + 2 * guard, T::PATTERN);
         Buffer {
             whole: whole.into_boxed_slice(),
             guard,
@@ -50,7 +63,7 @@ impl<T: Copy + From<u8>> Buffer<T> {
     }
 }
 
-impl<T: Copy + From<u8>> From<Vec<T>> for Buffer<T> {
+impl<T: Item> From<Vec<T>> for Buffer<T> {
     fn from(content: Vec<T>) -> Buffer<T> {
         Buffer::guarded(&content, GUARD)
     }

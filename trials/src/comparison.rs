@@ -2,8 +2,8 @@
 
 use std::panic::{AssertUnwindSafe, catch_unwind};
 
-use crate::call::{Call, Given};
-use crate::rows::ROW;
+use crate::call::{Call, Report};
+use crate::given::Given;
 use crate::service::{Pair, Service};
 
 /// The first difference that a list shows.
@@ -42,19 +42,19 @@ pub struct Agreed<'a> {
     pub reports: &'a [Given],
 }
 
-/// The first difference between the two programs on this list. `seen` is told of each call before it.
+/// The first difference between the two programs on this list. `seen` is told of each call before it. A call that one of them does
+/// not take is left out.
 pub fn compare(list: &[Call], pair: &mut Pair, seen: &mut dyn FnMut(Agreed)) -> Option<Difference> {
     let names = [pair.left.name(), pair.right.name()];
     let mut owners = Vec::new();
     let mut reports = Vec::new();
     for (at, call) in list.iter().enumerate() {
-        if let Call::Start { rows, .. } = call {
-            owners = rows
-                .lent()
-                .chunks(ROW)
-                .map(|row| row[0])
-                .take(usize::from(u8::MAX))
-                .collect();
+        if !pair.takes(call) {
+            continue;
+        }
+        if let Call::Start(start) = call {
+            let rows = start.rows.lent().iter().take(usize::from(u8::MAX));
+            owners = rows.map(|row| row.owner).collect();
         }
         let checked = compare_call(call, pair).and_then(|(left, given)| {
             compare_holdings(&owners, pair, &mut reports)?;
@@ -110,10 +110,8 @@ fn compare_holdings(owners: &[u8], pair: &mut Pair, reports: &mut Vec<Given>) ->
         let owner = owners.get(bridge).copied().unwrap_or(0);
         let bridge = bridge as u8;
         let report = |service: &mut dyn Service| {
-            service.call(&mut Call::Report {
-                session: owner,
-                bridge,
-            })
+            let session = owner;
+            service.call(&mut Report { session, bridge }.into())
         };
         let both = [report(&mut *pair.left), report(&mut *pair.right)];
         if both[0] != both[1] {

@@ -2,8 +2,9 @@
 
 use std::fmt;
 
-use crate::call::{Call, Handed, KINDS, LISTED};
+use crate::call::{Call, KINDS, LISTED, Osc};
 use crate::comparison::Agreed;
+use crate::given::Handed;
 
 const NUMBERS: usize = 12;
 /// A run of this many calls must give every listed number of every call at least `LEAST` times.
@@ -46,36 +47,28 @@ impl Counts {
 
     fn note_answer(&mut self, agreed: &Agreed) {
         match (agreed.call, agreed.given.handed) {
-            (
-                Call::Osc {
-                    capabilities,
-                    answer,
-                    ..
-                },
-                _,
-            ) => {
-                let statuses = [0x00, 0x02, 0x04, 0x08, 0x10];
-                let status = answer.lent()[0];
-                if let Some(place) = statuses.iter().position(|known| *known == status) {
-                    self.answers[place] += 1;
-                }
-                if matches!(status, 0x00 | 0x10) {
-                    self.answers[if capabilities.lent()[0] & 1 == 1 {
-                        5
-                    } else {
-                        6
-                    }] += 1;
-                }
-            }
-            (Call::FindRecord { .. }, Handed::Record { in_slot, .. }) => {
+            (Call::Osc(call), _) => self.note_status(call),
+            (Call::FindRecord(_), Handed::Record { in_slot, .. }) => {
                 self.answers[if in_slot { 7 } else { 8 }] += 1;
             }
-            (Call::RegisterValues { bridge, .. }, _) => {
-                let report = agreed.reports[usize::from(*bridge)].handed;
+            (Call::RegisterValues(call), _) => {
+                let report = agreed.reports[usize::from(call.bridge)].handed;
                 let aer = matches!(report, Handed::Holding { held, .. } if held & AER != 0);
                 self.answers[if aer { 9 } else { 10 }] += 1;
             }
             _ => {}
+        }
+    }
+
+    fn note_status(&mut self, call: &Osc) {
+        let statuses = [0x00, 0x02, 0x04, 0x08, 0x10];
+        let status = call.answer.lent()[0];
+        if let Some(answer) = statuses.iter().position(|known| *known == status) {
+            self.answers[answer] += 1;
+        }
+        if matches!(status, 0x00 | 0x10) {
+            let query = call.capabilities.lent()[0] & 1 == 1;
+            self.answers[if query { 5 } else { 6 }] += 1;
         }
     }
 

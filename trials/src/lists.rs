@@ -1,12 +1,13 @@
 //! Lists of calls: one start and some tens of calls around what was started.
 
 use crate::blocks;
-use crate::call::Call;
+use crate::call::{Call, FindRecord, Locate, RegisterValues, Report, Reset, Start};
 use crate::mcfg::{self, Entry};
 use crate::places;
 use crate::random::Random;
 use crate::requests;
-use crate::rows::{self, Row};
+use crate::row::Row;
+use crate::rows::{self, MOST_ROWS};
 
 /// A sound start, around which the calls of a list are drawn, whether or not the list starts so.
 pub struct Plan {
@@ -20,7 +21,8 @@ impl Plan {
     pub fn new(random: &mut Random) -> Plan {
         let count = random.pick(&[0, 1, 1, 1, 1, 2, 2, 2, 2, 3, 3, 3, 4, 4, 8, 16]);
         let entries = mcfg::sound_entries(random, count);
-        let most = random.pick(&[1, 2, 3, 4, 6, 16]);
+        let any = random.between(0, MOST_ROWS);
+        let most = random.pick(&[1, 2, 3, 4, 6, MOST_ROWS, any]);
         let rows = rows::sound_rows(random, &entries, most);
         Plan {
             entries,
@@ -36,12 +38,13 @@ impl Plan {
         };
         let rows = match spoil_rows {
             true => rows::spoiled_rows(random, &self.entries, &self.rows),
-            false => rows::bytes(&self.rows),
+            false => self.rows.clone(),
         };
-        Call::Start {
+        let start = Start {
             mcfg: mcfg.into(),
             rows: rows.into(),
-        }
+        };
+        start.into()
     }
 
     /// A session and a bridge number: most times a bridge and its owner.
@@ -73,54 +76,24 @@ impl Plan {
     fn next_call(&mut self, random: &mut Random) -> Call {
         let (session, bridge) = self.names(random);
         match random.below(32) {
-            0..8 => requests::any_call(random, session, bridge),
-            8..10 => Call::Reset { session, bridge },
-            10..12 => Call::Report { session, bridge },
+            0..8 => requests::any_call(random, session, bridge).into(),
+            8..10 => Reset { session, bridge }.into(),
+            10..12 => Report { session, bridge }.into(),
             12..16 => self.address(random, session, bridge),
             16..19 => self.locate(random, session),
-            19..22 => {
-                let (slot, bridge_block) = blocks::pair(random);
-                let record_type = random.pick(&[0, 1, 2, 0, 1, 2, 0, 1, 2, 3, 255]);
-                Call::FindRecord {
-                    slot: slot.into(),
-                    bridge_block: bridge_block.into(),
-                    record_type,
-                }
-            }
+            19..22 => find_record(random),
             _ => register_values(random, session, bridge),
         }
     }
 
     fn address(&mut self, random: &mut Random, session: u8, bridge: u8) -> Call {
-        let anywhere = Row {
-            owner: 0,
-            segment: 0,
-            first: 0,
-            last: 255,
-            kind: rows::EXPRESS,
-            permitted: 0,
-        };
-        let row = self
-            .rows
-            .get(usize::from(bridge))
-            .copied()
-            .unwrap_or(anywhere);
+        let anywhere = Row::express(0, 0, 0, 255);
+        let row = self.rows.get(usize::from(bridge)).unwrap_or(&anywhere);
         let call = places::any_address(random, session, bridge, row);
-        if let (
-            Call::Address {
-                bus,
-                device,
-                function,
-                offset,
-                ..
-            },
-            Some(entry),
-        ) = (&call, row.entry(&self.entries))
-        {
-            self.asked
-                .push(places::address_of(entry, *bus, *device, *function, *offset));
+        if let Some(entry) = row.entry(&self.entries) {
+            self.asked.push(places::address_of(entry, &call));
         }
-        call
+        call.into()
     }
 
     fn locate(&self, random: &mut Random, session: u8) -> Call {
@@ -134,8 +107,20 @@ impl Plan {
             (2..5, _) if !self.asked.is_empty() => random.pick(&self.asked),
             (_, Some((row, entry))) => places::near_address(random, entry, row),
         };
-        Call::Locate { session, address }
+        Locate { session, address }.into()
     }
+}
+
+fn find_record(random: &mut Random) -> Call {
+    let (slot, bridge_block) = blocks::pair(random);
+    let sound = random.below(3) as u32;
+    let other = random.pick(&[3, 255, 256, 0x100 + sound, 0x1_0000 + sound, u32::MAX]);
+    let call = FindRecord {
+        slot: slot.into(),
+        bridge_block: bridge_block.into(),
+        record_type: if random.one_in(5) { other } else { sound },
+    };
+    call.into()
 }
 
 fn register_values(random: &mut Random, session: u8, bridge: u8) -> Call {
@@ -152,13 +137,14 @@ fn register_values(random: &mut Random, session: u8, bridge: u8) -> Call {
             *control = random.pick(&[0xFFFF, 0x1_0000, u32::MAX]);
         }
     }
-    Call::RegisterValues {
+    let call = RegisterValues {
         session,
         bridge,
         slot: slot.into(),
         bridge_block: bridge_block.into(),
         current: current.into(),
-    }
+    };
+    call.into()
 }
 
 /// A list of calls. Half of the lists start a table; the others are refused, as a rule, and are short.
@@ -185,12 +171,7 @@ pub fn any_list(random: &mut Random) -> Vec<Call> {
 fn take_control(random: &mut Random, plan: &Plan, list: &mut Vec<Call>) {
     for (bridge, row) in plan.rows.iter().enumerate() {
         let control = random.pick(&[0x1F, 0x17, 0x11, 0x19]);
-        list.push(requests::right_call(
-            row.owner,
-            bridge as u8,
-            0,
-            random.word(),
-            control,
-        ));
+        let call = requests::right_call(row.owner, bridge as u8, 0, random.word(), control);
+        list.push(call.into());
     }
 }

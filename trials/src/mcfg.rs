@@ -108,9 +108,9 @@ fn set_windows(random: &mut Random, entries: &mut [Entry]) {
     let mut next = random.pick(&[0, 0xE00, high]);
     for entry in entries.iter_mut() {
         let start = u64::from(entry.start);
-        let place = (next + random.pick(&[0, 0, 1, 300])).max(start);
-        entry.base = (place - start) * BUS_BYTES;
-        next = place - start + u64::from(entry.end) + 1;
+        let first = (next + random.pick(&[0, 0, 1, 300])).max(start);
+        entry.base = (first - start) * BUS_BYTES;
+        next = first - start + u64::from(entry.end) + 1;
     }
     if random.one_in(3) && next < BUSES_TO_END {
         for entry in entries.iter_mut() {
@@ -184,7 +184,7 @@ fn sharing_the_last_window_bus(random: &mut Random, entry: Entry) -> Entry {
     }
 }
 
-/// Puts the entry in, or in place of another where 16 stand already.
+/// Puts the entry in; where 16 stand already, another is taken out.
 fn put(random: &mut Random, entries: &mut Vec<Entry>, entry: Entry) {
     let index = random.below(entries.len() + 1);
     entries.insert(index, entry);

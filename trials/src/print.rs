@@ -2,8 +2,10 @@
 
 use std::fmt::{self, Display, Write};
 
-use crate::call::{Call, Part};
+use crate::call::Call;
 use crate::comparison::{Difference, What};
+use crate::part::Part;
+use crate::row::{NAMES, Row};
 
 /// Everything that is needed to make the calls again by hand.
 pub fn report(list: &[Call], difference: &Difference) -> String {
@@ -30,13 +32,13 @@ impl Display for Shown<'_> {
             write!(f, "\n    {name} ")?;
             match part {
                 Part::Byte(number) => write!(f, "{number}")?,
-                Part::Half(number) => write!(f, "{number}")?,
                 Part::Word(number) => write!(f, "{number:#x}")?,
                 Part::Long(number) => write!(f, "{number:#x}")?,
                 Part::Bytes(bytes) => show_bytes(f, bytes.lent())?,
                 Part::Words(words) => {
                     write!(f, "({} numbers) {:x?}", words.lent().len(), words.lent())?
                 }
+                Part::Rows(rows) => show_rows(f, rows.lent())?,
             }
         }
         Ok(())
@@ -47,6 +49,17 @@ fn show_bytes(f: &mut fmt::Formatter<'_>, bytes: &[u8]) -> fmt::Result {
     write!(f, "({} bytes)", bytes.len())?;
     for byte in bytes {
         write!(f, " {byte:02X}")?;
+    }
+    Ok(())
+}
+
+fn show_rows(f: &mut fmt::Formatter<'_>, rows: &[Row]) -> fmt::Result {
+    write!(f, "({} rows)", rows.len())?;
+    for row in rows {
+        write!(f, "\n       ")?;
+        for (name, number) in NAMES.iter().zip(row.numbers()) {
+            write!(f, " {name} {number:#x}")?;
+        }
     }
     Ok(())
 }

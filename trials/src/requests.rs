@@ -1,6 +1,6 @@
 //! The arguments of _OSC calls.
 
-use crate::call::Call;
+use crate::call::Osc;
 use crate::random::Random;
 
 /// UUID 33db4d5b-1ff7-401c-9657-7441c03dd766 as it stands in the buffer.
@@ -15,8 +15,8 @@ pub const PRINTED_UUID: [u8; 16] = [
 pub const QUERY: u32 = 1;
 
 /// A framed call with the right UUID and revision.
-pub fn right_call(session: u8, bridge: u8, status: u32, support: u32, control: u32) -> Call {
-    Call::Osc {
+pub fn right_call(session: u8, bridge: u8, status: u32, support: u32, control: u32) -> Osc {
+    Osc {
         session,
         bridge,
         revision: 1,
@@ -31,16 +31,15 @@ pub fn right_call(session: u8, bridge: u8, status: u32, support: u32, control: u
 }
 
 /// Half of these calls are right; the others have one or more arguments that are wrong or near.
-pub fn any_call(random: &mut Random, session: u8, bridge: u8) -> Call {
+pub fn any_call(random: &mut Random, session: u8, bridge: u8) -> Osc {
     let status = (random.word() & !QUERY & random.pick(&[0, 0, ANY])) | u32::from(random.one_in(3));
     let support = random.word() & random.pick(&[0x1F, 0x3F, ANY, ANY]);
     let control = any_control(random);
-    let right = right_call(session, bridge, status, support, control);
+    let mut call = right_call(session, bridge, status, support, control);
     if random.one_in(2) {
-        right
-    } else {
-        spoiled(random, right)
+        spoil(random, &mut call);
     }
+    call
 }
 
 const ANY: u32 = u32::MAX;
@@ -53,34 +52,22 @@ fn any_control(random: &mut Random) -> u32 {
     ])
 }
 
-fn spoiled(random: &mut Random, mut call: Call) -> Call {
-    let Call::Osc {
-        revision,
-        count,
-        uuid,
-        capabilities,
-        answer,
-        ..
-    } = &mut call
-    else {
-        return call;
-    };
+fn spoil(random: &mut Random, call: &mut Osc) {
     if random.one_in(4) {
-        uuid.replace(&any_uuid(random));
+        call.uuid.replace(&any_uuid(random));
     }
     if random.one_in(4) {
-        *revision = random.pick(&[0, 2, 0x101, 0x0100_0000, ANY]);
+        call.revision = random.pick(&[0, 2, 0x101, 0x1_0001, 0x0100_0000, 0x8000_0001, ANY]);
     }
     if random.one_in(2) {
-        *count = random.pick(&[0, 1, 2, 2, 4, 4, 7, 8, 8, 9, 0x4000_0003, 0x8000_0003, ANY]);
+        call.count = random.pick(&[0, 1, 2, 2, 4, 4, 7, 8, 8, 9, 0x4000_0003, 0x8000_0003, ANY]);
     }
-    let framed = count.wrapping_mul(4).min(64) as usize;
-    let mut status = capabilities.lent().to_vec();
-    status.resize(near(random, framed), 0xFF);
-    capabilities.replace(&status);
+    let framed = call.count.wrapping_mul(4).min(64) as usize;
+    let mut capabilities = call.capabilities.lent().to_vec();
+    capabilities.resize(near(random, framed), 0xFF);
+    call.capabilities.replace(&capabilities);
     let answer_length = near(random, framed);
-    answer.replace(&random.bytes(answer_length));
-    call
+    call.answer.replace(&random.bytes(answer_length));
 }
 
 /// The length, or once in eight times one that is off by 1 or by 4.

@@ -1,54 +1,10 @@
-//! Rows of the starting list: sound ones, and ones that break a rule or stand at its edge.
+//! Lists of rows: sound ones, and ones that break a rule or stand at its edge.
 
 use crate::mcfg::Entry;
 use crate::random::Random;
+use crate::row::{CONVENTIONAL, EXPRESS, NUMBERS, Row};
 
-pub const ROW: usize = 10;
-pub const EXPRESS: u8 = 0;
-pub const CONVENTIONAL: u8 = 1;
-
-#[derive(Clone, Copy, Debug, PartialEq, Eq)]
-pub struct Row {
-    pub owner: u8,
-    pub segment: u16,
-    pub first: u8,
-    pub last: u8,
-    pub kind: u8,
-    pub permitted: u32,
-}
-
-impl Row {
-    /// The entry that the row's buses lie inside.
-    pub fn entry<'a>(&self, entries: &'a [Entry]) -> Option<&'a Entry> {
-        let mut of_segment = entries.iter().filter(|entry| entry.segment == self.segment);
-        of_segment.find(|entry| entry.start <= self.first && self.last <= entry.end)
-    }
-}
-
-pub fn bytes(rows: &[Row]) -> Vec<u8> {
-    let mut bytes = Vec::with_capacity(rows.len() * ROW);
-    for row in rows {
-        bytes.push(row.owner);
-        bytes.extend_from_slice(&row.segment.to_le_bytes());
-        bytes.extend_from_slice(&[row.first, row.last, row.kind]);
-        bytes.extend_from_slice(&row.permitted.to_le_bytes());
-    }
-    bytes
-}
-
-/// The rows that these bytes are, if each has ten.
-pub fn read(bytes: &[u8]) -> Option<Vec<Row>> {
-    let (rows, rest) = bytes.as_chunks::<ROW>();
-    let row = |[owner, s0, s1, first, last, kind, p0, p1, p2, p3]: &[u8; ROW]| Row {
-        owner: *owner,
-        segment: u16::from_le_bytes([*s0, *s1]),
-        first: *first,
-        last: *last,
-        kind: *kind,
-        permitted: u32::from_le_bytes([*p0, *p1, *p2, *p3]),
-    };
-    rest.is_empty().then(|| rows.iter().map(row).collect())
-}
+pub const MOST_ROWS: usize = 16;
 
 /// Up to `most` rows inside these entries; sound if they are at most 16.
 pub fn sound_rows(random: &mut Random, entries: &[Entry], most: usize) -> Vec<Row> {
@@ -61,14 +17,14 @@ pub fn sound_rows(random: &mut Random, entries: &[Entry], most: usize) -> Vec<Ro
             let first = (next + random.pick(&[0, 0, 0, 1])).min(end);
             let last = (first + random.pick(&[0, 1, 5, 255])).min(end);
             let (kind, permitted) = kind_and_permitted(random);
-            let owner = random.pick(&owners);
             rows.push(Row {
-                owner,
+                permitted,
                 segment: entry.segment,
+                owner: random.pick(&owners),
                 first: first as u8,
                 last: last as u8,
                 kind,
-                permitted,
+                unused: random.half(),
             });
             next = last + 1;
         }
@@ -88,30 +44,37 @@ fn kind_and_permitted(random: &mut Random) -> (u8, u32) {
     )
 }
 
-/// The bytes of rows near these sound ones that break a rule, as a rule.
-pub fn spoiled_rows(random: &mut Random, entries: &[Entry], rows: &[Row]) -> Vec<u8> {
-    if rows.is_empty() || random.one_in(4) {
-        return spoiled_bytes(random, entries, rows);
+/// Rows near these sound ones that break a rule, as a rule.
+pub fn spoiled_rows(random: &mut Random, entries: &[Entry], rows: &[Row]) -> Vec<Row> {
+    if rows.is_empty() || random.one_in(8) {
+        return one_too_many(random, entries);
     }
     let mut spoiled = rows.to_vec();
     let index = random.below(rows.len());
-    match random.below(3) {
-        0 => spoiled_number(random, &mut spoiled[index]),
-        1 => spoiled_buses(random, entries, &mut spoiled[index]),
+    match random.below(4) {
+        0 => spoil_number(random, &mut spoiled[index]),
+        1 => spoil_buses(random, entries, &mut spoiled[index]),
+        2 => set_any_number(random, &mut spoiled[index]),
         _ => {
             let shared = shared_buses(random, rows[index]);
-            let place = random.below(rows.len() + 1);
-            spoiled.insert(place, shared);
-            spoiled.truncate(16);
+            spoiled.insert(random.below(rows.len() + 1), shared);
+            spoiled.truncate(MOST_ROWS);
         }
     }
-    bytes(&spoiled)
+    spoiled
 }
 
-fn spoiled_number(random: &mut Random, row: &mut Row) {
+/// 17 rows, which are sound but for that where the entries have buses for all of them.
+fn one_too_many(random: &mut Random, entries: &[Entry]) -> Vec<Row> {
+    let mut rows = sound_rows(random, entries, MOST_ROWS + 1);
+    rows.resize(MOST_ROWS + 1, Row::express(0, 0, 0, 0));
+    rows
+}
+
+fn spoil_number(random: &mut Random, row: &mut Row) {
     match random.below(5) {
         0 => row.owner = random.pick(&[16, 17, 255, row.owner | 0x10]),
-        1 => row.kind = random.pick(&[2, 3, 255, row.kind | 0x80]),
+        1 => row.kind = random.pick(&[2, 2, 3, 255, 0x80, row.kind | 0x80]),
         2 => row.permitted |= 1 << random.pick(&[5, 6, 8, 31]),
         3 => (row.kind, row.permitted) = (CONVENTIONAL, random.pick(&[1, 3, 4, 8, 0x10, 0x1F])),
         _ => {
@@ -125,7 +88,7 @@ fn spoiled_number(random: &mut Random, row: &mut Row) {
 }
 
 /// Buses off by one at either edge of the row or of its entry.
-fn spoiled_buses(random: &mut Random, entries: &[Entry], row: &mut Row) {
+fn spoil_buses(random: &mut Random, entries: &[Entry], row: &mut Row) {
     let (start, end) = row
         .entry(entries)
         .map_or((0, 255), |entry| (entry.start, entry.end));
@@ -137,6 +100,12 @@ fn spoiled_buses(random: &mut Random, entries: &[Entry], row: &mut Row) {
         4 => (row.first, row.last) = (start, end.wrapping_add(1)),
         _ => (row.first, row.last) = (start, end),
     }
+}
+
+fn set_any_number(random: &mut Random, row: &mut Row) {
+    let mut numbers = row.numbers();
+    numbers[random.below(NUMBERS)] = random.long();
+    *row = Row::from_numbers(&numbers);
 }
 
 /// A row that shares a bus, or all its buses, with this one.
@@ -152,33 +121,4 @@ fn shared_buses(random: &mut Random, row: Row) -> Row {
         },
         _ => row,
     }
-}
-
-fn spoiled_bytes(random: &mut Random, entries: &[Entry], rows: &[Row]) -> Vec<u8> {
-    let mut sound = bytes(rows);
-    match random.below(4) {
-        0 => {
-            let more = random.between(1, 9);
-            sound.extend_from_slice(&random.bytes(more));
-        }
-        1 if !sound.is_empty() => sound.truncate(sound.len() - random.between(1, 9)),
-        2 if !sound.is_empty() => {
-            let index = random.below(sound.len());
-            sound[index] = random.byte();
-        }
-        _ => {
-            let mut many = sound_rows(random, entries, 17);
-            let filler = Row {
-                owner: 0,
-                segment: 0,
-                first: 0,
-                last: 0,
-                kind: EXPRESS,
-                permitted: 0,
-            };
-            many.resize(17, filler);
-            return bytes(&many);
-        }
-    }
-    sound
 }

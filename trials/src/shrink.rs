@@ -3,11 +3,11 @@
 use std::ops::Range;
 
 use crate::blocks;
-use crate::call::{Call, Part};
+use crate::call::{Call, Start};
 use crate::mcfg;
-use crate::rows::ROW;
+use crate::part::Part;
 
-/// Smaller is simpler: calls, then lent items, then items and numbers that are not 0, then the sum of them.
+/// Smaller is simpler: calls, then lent numbers, then numbers that are not 0, then the sum of them.
 type Size = (usize, usize, usize, u128);
 
 /// Lists that are tried at most, so that a difference is told in the end.
@@ -17,10 +17,10 @@ fn size(list: &[Call]) -> Size {
     let (mut lent, mut not_zero, mut sum) = (0, 0, 0);
     for call in list {
         for (_, part) in call.clone().parts() {
-            let items = part.items();
-            lent += if part.is_buffer() { items.len() } else { 0 };
-            not_zero += items.iter().filter(|item| **item != 0).count();
-            sum += items.into_iter().map(u128::from).sum::<u128>();
+            let numbers = part.numbers();
+            lent += if part.is_buffer() { numbers.len() } else { 0 };
+            not_zero += numbers.iter().filter(|number| **number != 0).count();
+            sum += numbers.into_iter().map(u128::from).sum::<u128>();
         }
     }
     (list.len(), lent, not_zero, sum)
@@ -68,7 +68,7 @@ fn with(list: &[Call], index: usize, call: Call) -> Vec<Call> {
 
 fn row_count(list: &[Call]) -> usize {
     match list.first() {
-        Some(Call::Start { rows, .. }) => rows.lent().len() / ROW,
+        Some(Call::Start(start)) => start.rows.lent().len(),
         _ => 0,
     }
 }
@@ -77,13 +77,13 @@ fn row_count(list: &[Call]) -> usize {
 fn without_row(list: &[Call], row: usize) -> Vec<Call> {
     let mut changed = list.to_vec();
     for call in &mut changed {
-        if let Call::Start { rows, .. } = call {
-            let mut fewer = rows.lent().to_vec();
-            fewer.drain(row * ROW..(row + 1) * ROW);
-            rows.replace(&fewer);
-        }
         for part in call.parts() {
             match part {
+                ("rows", Part::Rows(rows)) => {
+                    let mut fewer = rows.lent().to_vec();
+                    fewer.remove(row);
+                    rows.replace(&fewer);
+                }
                 ("bridge", Part::Byte(bridge)) if usize::from(*bridge) > row => *bridge -= 1,
                 _ => {}
             }
@@ -95,16 +95,8 @@ fn without_row(list: &[Call], row: usize) -> Vec<Call> {
 /// Calls like this one with one argument simpler, and starts with one entry less.
 fn simpler_calls(call: &Call) -> Vec<Call> {
     let mut simpler = Vec::new();
-    if let Call::Start { mcfg, rows } = call {
-        let start = |bytes: Vec<u8>| {
-            let mut mcfg = mcfg.clone();
-            mcfg.replace(&bytes);
-            Call::Start {
-                mcfg,
-                rows: rows.clone(),
-            }
-        };
-        simpler.extend(simpler_tables(mcfg.lent()).into_iter().map(start));
+    if let Call::Start(start) = call {
+        simpler.extend(simpler_tables(start));
     }
     for index in 0..call.clone().parts().len() {
         simpler.extend(simpler_part(call, index));
@@ -112,8 +104,9 @@ fn simpler_calls(call: &Call) -> Vec<Call> {
     simpler
 }
 
-/// MCFG tables with one entry less, with zeros in a run or with one byte smaller, mended.
-fn simpler_tables(table: &[u8]) -> Vec<Vec<u8>> {
+/// Starts from an MCFG table with one entry less, with zeros in a run or with one byte smaller, mended.
+fn simpler_tables(start: &Start) -> Vec<Call> {
+    let table = start.mcfg.lent();
     let mut simpler = Vec::new();
     for entry in (mcfg::HEADER..table.len()).step_by(mcfg::ENTRY) {
         let mut fewer = table.to_vec();
@@ -121,18 +114,23 @@ fn simpler_tables(table: &[u8]) -> Vec<Vec<u8>> {
         mcfg::mend(&mut fewer);
         simpler.push(fewer);
     }
-    let items: Vec<u64> = table.iter().copied().map(u64::from).collect();
-    let (fixed, free) = items.split_at(items.len().min(10));
-    for changed in zero_runs(free).into_iter().chain(smaller_items(free)) {
-        let items = fixed.iter().chain(&changed);
-        let mut bytes: Vec<u8> = items.map(|item| *item as u8).collect();
+    let numbers: Vec<u64> = table.iter().copied().map(u64::from).collect();
+    let (fixed, free) = numbers.split_at(numbers.len().min(10));
+    for changed in zero_runs(free).into_iter().chain(smaller_numbers(free)) {
+        let numbers = fixed.iter().chain(&changed);
+        let mut bytes: Vec<u8> = numbers.map(|number| *number as u8).collect();
         mcfg::mend_checksum(&mut bytes);
         simpler.push(bytes);
     }
-    simpler
+    let with_table = |table: Vec<u8>| {
+        let mut changed = start.clone();
+        changed.mcfg.replace(&table);
+        changed.into()
+    };
+    simpler.into_iter().map(with_table).collect()
 }
 
-/// Smaller numbers to try in place of this one: 0, then it less a half, a quarter and so on down to it less 1.
+/// Smaller numbers to try instead of this one: 0, then it less a half, a quarter and so on down to it less 1.
 fn smaller(number: u64) -> Vec<u64> {
     let parts = (0..u64::BITS).map(|bits| number >> bits);
     parts
@@ -141,20 +139,20 @@ fn smaller(number: u64) -> Vec<u64> {
         .collect()
 }
 
-fn shorter_items(items: &[u64]) -> Vec<Vec<u64>> {
-    let lengths = [0, items.len() / 2, items.len().saturating_sub(1)];
-    lengths.map(|length| items[..length].to_vec()).into()
+fn shorter(numbers: &[u64]) -> Vec<Vec<u64>> {
+    let lengths = [0, numbers.len() / 2, numbers.len().saturating_sub(1)];
+    lengths.map(|length| numbers[..length].to_vec()).into()
 }
 
-/// Lists with zeros in a run of items: all of them, a half, and so on down to 2.
-fn zero_runs(items: &[u64]) -> Vec<Vec<u64>> {
+/// Lists with zeros in a run of numbers: all of them, a half, and so on down to 2.
+fn zero_runs(numbers: &[u64]) -> Vec<Vec<u64>> {
     let mut simpler = Vec::new();
-    let mut run = items.len();
+    let mut run = numbers.len();
     while run > 1 {
-        for start in (0..items.len()).step_by(run) {
-            let mut changed = items.to_vec();
+        for start in (0..numbers.len()).step_by(run) {
+            let mut changed = numbers.to_vec();
             let zeroed = changed[start..].iter_mut().take(run);
-            zeroed.for_each(|item| *item = 0);
+            zeroed.for_each(|number| *number = 0);
             simpler.push(changed);
         }
         run /= 2;
@@ -162,12 +160,12 @@ fn zero_runs(items: &[u64]) -> Vec<Vec<u64>> {
     simpler
 }
 
-/// Lists with one item smaller.
-fn smaller_items(items: &[u64]) -> Vec<Vec<u64>> {
+/// Lists with one number smaller.
+fn smaller_numbers(numbers: &[u64]) -> Vec<Vec<u64>> {
     let mut simpler = Vec::new();
-    for index in 0..items.len() {
-        for number in smaller(items[index]) {
-            let mut changed = items.to_vec();
+    for index in 0..numbers.len() {
+        for number in smaller(numbers[index]) {
+            let mut changed = numbers.to_vec();
             changed[index] = number;
             simpler.push(changed);
         }
@@ -177,29 +175,29 @@ fn smaller_items(items: &[u64]) -> Vec<Vec<u64>> {
 
 /// Record blocks with one field less.
 fn fewer_fields(block: &[u64]) -> Vec<Vec<u64>> {
-    let bytes: Vec<u8> = block.iter().map(|item| *item as u8).collect();
+    let bytes: Vec<u8> = block.iter().map(|number| *number as u8).collect();
     let without = |field: Range<usize>| [&block[..field.start], &block[field.end..]].concat();
     blocks::fields(&bytes).into_iter().map(without).collect()
 }
 
-/// Calls like this one with a simpler argument at this place.
+/// Calls like this one with the argument of this index simpler.
 fn simpler_part(call: &Call, index: usize) -> Vec<Call> {
     let mut original = call.clone();
     let (name, part) = &original.parts()[index];
-    let items = part.items();
+    let numbers = part.numbers();
     let mut simpler = Vec::new();
     if matches!(*name, "slot" | "bridge_block") {
-        simpler.extend(fewer_fields(&items));
+        simpler.extend(fewer_fields(&numbers));
     }
     if part.is_buffer() {
-        simpler.extend(shorter_items(&items));
-        simpler.extend(zero_runs(&items));
+        simpler.extend(shorter(&numbers));
+        simpler.extend(zero_runs(&numbers));
     }
-    simpler.extend(smaller_items(&items));
-    let with_items = |items: Vec<u64>| {
+    simpler.extend(smaller_numbers(&numbers));
+    let with_numbers = |numbers: Vec<u64>| {
         let mut changed = call.clone();
-        changed.parts()[index].1.set_items(&items);
+        changed.parts()[index].1.set_numbers(&numbers);
         changed
     };
-    simpler.into_iter().map(with_items).collect()
+    simpler.into_iter().map(with_numbers).collect()
 }

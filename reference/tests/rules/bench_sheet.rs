@@ -117,7 +117,7 @@ fn offset_4092_and_4094() {
 
 #[test]
 fn empty_blocks() {
-    for record_type in 0..=255 {
+    for record_type in 0..=256 {
         let found = find_record(&[], &[], record_type);
         assert_eq!(found, Err(Refusal::NoRecord));
     }

@@ -18,7 +18,7 @@ fn place_exactly_when() {
     assert_eq!(at(2, 32, 0, 0, 1), Err(5));
     assert_eq!(at(2, 0, 8, 0, 1), Err(5));
     assert_eq!(at(2, 0, 0, 4096, 1), Err(5));
-    assert_eq!(at(2, 0, 0, u16::MAX, 1), Err(5));
+    assert_eq!(at(2, 0, 0, 65535, 1), Err(5));
     assert_eq!(at(2, 0, 0, 2, 4), Err(5));
     assert_eq!(at(2, 0, 0, 1, 2), Err(5));
     for width in (0..=255).filter(|width| ![1, 2, 4].contains(width)) {
@@ -26,6 +26,32 @@ fn place_exactly_when() {
     }
     assert_eq!(at(1, 0, 0, 0, 4), Err(4));
     assert_eq!(at(6, 0, 0, 0, 4), Err(4));
+}
+
+/// Each number is sound once its upper bits are lost, or stands just above its limit.
+#[test]
+fn numbers_are_compared_whole() {
+    let table = one_bridge(0);
+    let at = |bus, device, function, offset, width| {
+        let address = table.address(OWNER, BRIDGE, bus, device, function, offset, width);
+        address.map_err(Refusal::number)
+    };
+    assert_eq!(at(255, 31, 7, 0xFFC, 4), Ok(BASE + 0xFFF_FFFC));
+    for bus in [256, 257, 0x1_0001, u32::MAX] {
+        assert_eq!(at(bus, 2, 3, 0x10, 4), Err(4));
+    }
+    for device in [32, 256, 258, 0x1_0002, u32::MAX] {
+        assert_eq!(at(1, device, 3, 0x10, 4), Err(5));
+    }
+    for function in [8, 256, 259, 0x1_0003, u32::MAX] {
+        assert_eq!(at(1, 2, function, 0x10, 4), Err(5));
+    }
+    for offset in [4096, 65536, 65552, 0x8000_0010, u32::MAX] {
+        assert_eq!(at(1, 2, 3, offset, 1), Err(5));
+    }
+    for width in [0, 3, 256, 257, 260, 0x1_0004, u32::MAX] {
+        assert_eq!(at(1, 2, 3, 0x10, width), Err(5));
+    }
 }
 
 /// A place read back and asked for again.
@@ -38,7 +64,8 @@ fn there_and_back(table: &Table, address: u64) -> Place {
         function,
         offset,
     } = place;
-    let again = table.address(OWNER, bridge, bus, device, function, offset, 1);
+    let [bus, device, function] = [bus, device, function].map(u32::from);
+    let again = table.address(OWNER, bridge, bus, device, function, offset.into(), 1);
     assert_eq!(again, Ok(address));
     place
 }

@@ -59,7 +59,8 @@ fn other_revisions_are_skipped() {
         for revision in [0, 2, 0x101, u32::MAX] {
             for numbers in 1..20 {
                 let block = record(tag, &vec![revision; numbers]);
-                assert_eq!(find_record(&block, &[], tag), Err(Refusal::NoRecord));
+                let found = find_record(&block, &[], tag.into());
+                assert_eq!(found, Err(Refusal::NoRecord));
             }
             let ragged = field(tag, &[2, 0, 0, 0, 0]);
             assert!(!sound(&ragged));
@@ -74,8 +75,9 @@ fn other_tags_are_skipped() {
             let mut block = field(tag, &vec![1; length]);
             let after = block.len();
             block.extend(pci_x());
-            assert_eq!(find_record(&block, &[], 1), Ok(&block[after..]));
-            assert_eq!(find_record(&block, &[], tag), Err(Refusal::NoRecord));
+            let found = |record_type| find_record(&block, &[], record_type);
+            assert_eq!(found(1), Ok(&block[after..]));
+            assert_eq!(found(tag.into()), Err(Refusal::NoRecord));
         }
     }
 }
@@ -124,6 +126,15 @@ fn whole_block_is_checked_first() {
     let block = [pci(), vec![9]].concat();
     assert_eq!(find_record(&block, &[], 0), Err(Refusal::RecordBlock));
     assert_eq!(find_record(&block, &[], 7), Err(Refusal::RecordBlock));
+}
+
+#[test]
+fn types_are_compared_whole() {
+    let block = [pci(), pci_x(), express(3, 4)].concat();
+    assert_eq!(find_record(&block, &[], 2), Ok(&block[42..]));
+    for other in [3, 255, 256, 0x101, 0x102, 0x1_0002, 0x8000_0000, u32::MAX] {
+        assert_eq!(find_record(&block, &[], other), Err(Refusal::NoRecord));
+    }
 }
 
 #[test]

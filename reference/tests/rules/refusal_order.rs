@@ -1,7 +1,7 @@
 //! Refusal numbers, and which comes first when two conditions hold.
 
 use crate::build::*;
-use reference::{BridgeNumber, Refusal, SessionNumber, Table};
+use reference::{BridgeNumber, BridgeRow, Refusal, SessionNumber, Table};
 
 #[test]
 fn numbers() {
@@ -23,15 +23,20 @@ fn numbers() {
 
 #[test]
 fn start_6_then_7() {
-    let bad_row = [row(1, 0, 0)];
-    let mut bad_mcfg = mcfg(&[(BASE, 0, 0, 255)]);
+    let entry = (BASE, 0, 0, 255);
+    let mut bad_mcfg = mcfg(&[entry]);
     bad_mcfg[9] ^= 1;
-    assert_eq!(Table::start(&bad_mcfg, &bad_row).err(), Some(Refusal::Mcfg));
-    assert_eq!(
-        Table::start_bytes(&bad_mcfg, &[0]).err(),
-        Some(Refusal::Mcfg)
-    );
-    assert_eq!(start(&[], &bad_row).err(), Some(Refusal::Rows));
+    let bad_buses = row(1, 0, 0);
+    let bad_kind = BridgeRow {
+        kind: 2,
+        ..row(0, 1, 0)
+    };
+    for bad_row in [bad_buses, bad_kind] {
+        let refused = Table::start(&bad_mcfg, &[bad_row]);
+        assert_eq!(refused.err(), Some(Refusal::Mcfg));
+        assert_eq!(start(&[entry], &[bad_row]).err(), Some(Refusal::Rows));
+    }
+    assert_eq!(start(&[], &[row(0, 1, 0)]).err(), Some(Refusal::Rows));
 }
 
 /// An _OSC call with wrong framing, which leaves table and answer as they were.
@@ -81,11 +86,15 @@ fn reset_and_report_1_2() {
 #[test]
 fn address_1_2_5_4() {
     let table = start(&[(BASE, 0, 0, 255)], &[row(2, 5, 0)]).unwrap();
-    let at = |session, bridge, device| table.address(session, bridge, 9, device, 0, 0, 4);
-    assert_eq!(at(STRANGER, ABSENT, 32), Err(Refusal::NoSuchBridge));
-    assert_eq!(at(STRANGER, BRIDGE, 32), Err(Refusal::NotOwner));
-    assert_eq!(at(OWNER, BRIDGE, 32), Err(Refusal::BadPlace));
-    assert_eq!(at(OWNER, BRIDGE, 31), Err(Refusal::NoSuchBus));
+    for bus in [9, 256 + 2] {
+        let at = |session, bridge, device| table.address(session, bridge, bus, device, 0, 0, 4);
+        for device in [32, 256] {
+            assert_eq!(at(STRANGER, ABSENT, device), Err(Refusal::NoSuchBridge));
+            assert_eq!(at(STRANGER, BRIDGE, device), Err(Refusal::NotOwner));
+            assert_eq!(at(OWNER, BRIDGE, device), Err(Refusal::BadPlace));
+        }
+        assert_eq!(at(OWNER, BRIDGE, 31), Err(Refusal::NoSuchBus));
+    }
 }
 
 #[test]

@@ -1,7 +1,7 @@
 //! The MCFG table and the starting list.
 
 use crate::build::*;
-use reference::{BridgeKind, BridgeRow, Refusal, SessionNumber, Table};
+use reference::{BridgeRow, Refusal, SessionNumber, Table};
 
 /// Starts with these entries and no rows.
 fn entries(entries: &[Entry]) -> Result<(), Refusal> {
@@ -184,7 +184,7 @@ fn permitted_bits() {
             ..row_7(0x10, 0x10)
         };
         let conventional = BridgeRow {
-            kind: BridgeKind::Conventional,
+            kind: CONVENTIONAL,
             ..express
         };
         assert_eq!(rows(&[express]).is_ok(), bit <= 4);
@@ -193,24 +193,17 @@ fn permitted_bits() {
 }
 
 #[test]
-fn rows_as_bytes() {
-    let mcfg = mcfg(&[(BASE, 0, 0, 255)]);
-    let bytes: Vec<u8> = [row(0, 0, 0x1F), row(1, 1, 0x1F)]
-        .iter()
-        .flat_map(row_bytes)
-        .collect();
-    for length in 0..=20 {
-        let table = Table::start_bytes(&mcfg, &bytes[..length]);
-        match table {
-            Ok(table) => assert_eq!(10 * table.len(), length),
-            Err(refusal) => assert!(refusal == Refusal::Rows && length % 10 != 0),
-        }
-    }
-    for kind in 2..=255 {
-        let mut other = bytes.clone();
-        other[15] = kind;
-        let refused = Table::start_bytes(&mcfg, &other);
-        assert_eq!(refused.unwrap_err(), Refusal::Rows);
+fn kinds() {
+    let kind = |kind, permitted| {
+        let row = row(0, 0, permitted);
+        start(&[(BASE, 0, 0, 255)], &[BridgeRow { kind, ..row }]).err()
+    };
+    assert_eq!(kind(EXPRESS, 0x1F), None);
+    assert_eq!(kind(CONVENTIONAL, 0x02), None);
+    assert_eq!(kind(CONVENTIONAL, 0x1F), Some(Refusal::Rows));
+    for other in 2..=255 {
+        assert_eq!(kind(other, 0), Some(Refusal::Rows));
+        assert_eq!(kind(other, 0x02), Some(Refusal::Rows));
     }
 }
 

@@ -1,12 +1,12 @@
-//! Record blocks with one byte changed, and cut.
+//! Record blocks with one byte changed, and cut, and the types that are asked for.
 
 use super::Bench;
 use crate::blocks;
-use crate::call::Call;
+use crate::call::{FindRecord, RegisterValues, Start};
 use crate::mcfg::{self, Entry};
 use crate::random::Random;
 use crate::requests;
-use crate::rows::{self, Row};
+use crate::row::Row;
 use crate::service::Pair;
 
 const OWNER: u8 = 7;
@@ -20,21 +20,14 @@ fn started(make: fn() -> Pair) -> Result<Bench, String> {
         start: 0,
         end: 1,
     };
-    let row = |bus| Row {
-        owner: OWNER,
-        segment: 0,
-        first: bus,
-        last: bus,
-        kind: rows::EXPRESS,
-        permitted: 0x1F,
-    };
+    let row = |bus| Row::express(OWNER, 0, bus, bus);
     let mcfg = mcfg::table(&mut Random::new(0), &[entry]);
-    let start = Call::Start {
+    let start = Start {
         mcfg: mcfg.into(),
-        rows: rows::bytes(&[row(0), row(1)]).into(),
+        rows: vec![row(0), row(1)].into(),
     };
     let take = |bridge: usize| requests::right_call(OWNER, bridge as u8, 0, 0, CONTROLS[bridge]);
-    Bench::new(make, vec![start, take(0), take(1)])
+    Bench::new(make, vec![start.into(), take(0).into(), take(1).into()])
 }
 
 /// All three types, a tag that is skipped and a revision that is skipped.
@@ -49,10 +42,10 @@ fn sound_block() -> Vec<u8> {
 pub fn changed_bytes(make: fn() -> Pair) -> Result<u64, String> {
     let mut bench = started(make)?;
     let sound = sound_block();
-    for place in 0..sound.len() {
+    for index in 0..sound.len() {
         for value in 0..=u8::MAX {
             let mut changed = sound.clone();
-            changed[place] = value;
+            changed[index] = value;
             check(&mut bench, &changed, &sound)?;
         }
     }
@@ -64,6 +57,22 @@ pub fn cut_blocks(make: fn() -> Pair) -> Result<u64, String> {
     let sound = sound_block();
     for length in 0..=sound.len() {
         check(&mut bench, &sound[..length], &sound)?;
+    }
+    Ok(bench.count)
+}
+
+/// Every type of a byte, the same with bits above a byte and above a half word, and the last.
+pub fn types(make: fn() -> Pair) -> Result<u64, String> {
+    let mut bench = Bench::new(make, Vec::new())?;
+    let sound = sound_block();
+    for above in [0, 0x100, 0xFF00, 0x1_0000, 0x8000_0000, 0xFFFF_FF00] {
+        for low in 0..=0xFF {
+            bench.check(FindRecord {
+                slot: sound.clone().into(),
+                bridge_block: Vec::new().into(),
+                record_type: above | low,
+            })?;
+        }
     }
     Ok(bench.count)
 }
@@ -83,14 +92,14 @@ fn check(bench: &mut Bench, block: &[u8], sound: &[u8]) -> Result<(), String> {
     for (slot, bridge_block) in [(block, sound), (&[], block)] {
         let lent = |block: &[u8]| block.to_vec().into();
         for record_type in 0..=3 {
-            bench.check(Call::FindRecord {
+            bench.check(FindRecord {
                 slot: lent(slot),
                 bridge_block: lent(bridge_block),
                 record_type,
             })?;
         }
         for bridge in 0..CONTROLS.len() as u8 {
-            bench.check(Call::RegisterValues {
+            bench.check(RegisterValues {
                 session: OWNER,
                 bridge,
                 slot: lent(slot),

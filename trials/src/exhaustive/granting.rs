@@ -2,11 +2,12 @@
 
 use slipwattle::sys;
 
-use crate::call::{Call, Handed};
+use crate::call::{Osc, Start};
+use crate::given::Handed;
 use crate::mcfg::{self, Entry};
 use crate::random::Random;
 use crate::requests;
-use crate::rows::{self, Row};
+use crate::row::Row;
 use crate::service::{Boundary, Service};
 
 const SETS: u32 = 64;
@@ -25,7 +26,7 @@ struct Case {
 }
 
 impl Case {
-    fn call(&self) -> Call {
+    fn call(&self) -> Osc {
         requests::right_call(OWNER, 0, u32::from(self.query), SUPPORT, self.requested)
     }
 }
@@ -33,7 +34,7 @@ impl Case {
 /// The bits granted of those permitted, held and requested.
 type Granted = fn(u32, u32, u32) -> u32;
 
-/// Sets permitted and held bits in a started table's row, which a call allows: of its table it asks only that windows are apart and
+/// Sets permitted and held bits of a started table's bridge, which a call allows: of its table it asks only that windows are apart and
 /// end at 2^64 at most. Compares with this granting and document 01's rule for the answer.
 pub fn every_set(granted: Granted) -> Result<u64, String> {
     let mut boundary = started();
@@ -67,21 +68,13 @@ fn started() -> Boundary {
         start: 0,
         end: 255,
     };
-    let row = Row {
-        owner: OWNER,
-        segment: 0,
-        first: 0,
-        last: 255,
-        kind: rows::EXPRESS,
-        permitted: KNOWN,
-    };
     let mcfg = mcfg::table(&mut Random::new(0), &[entry]);
     let mut boundary = Boundary::new();
-    let mut start = Call::Start {
+    let start = Start {
         mcfg: mcfg.into(),
-        rows: rows::bytes(&[row]).into(),
+        rows: vec![Row::express(OWNER, 0, 0, 255)].into(),
     };
-    let given = boundary.call(&mut start);
+    let given = boundary.call(&mut start.into());
     assert_eq!(
         given.handed,
         Handed::Table { bridges: 1 },
@@ -91,47 +84,44 @@ fn started() -> Boundary {
 }
 
 fn check(boundary: &mut Boundary, granted: Granted, case: &Case) -> Result<(), String> {
-    let before = sys::Row {
+    let before = sys::HostBridge {
         permitted: case.permitted,
         held: case.held,
         supported: SUPPORTED,
         ..boundary.table().bridges[0]
     };
     boundary.table().bridges[0] = before;
-    let mut call = case.call();
+    let mut call = case.call().into();
     let number = boundary.call(&mut call).number;
     let after = boundary.table().bridges[0];
-    let (answered, row) = expected(
-        granted(case.permitted, case.held, case.requested),
-        case,
-        before,
-    );
-    if (number, &call, after) == (0, &answered, row) {
+    let granted = granted(case.permitted, case.held, case.requested);
+    let (answered, bridge) = expected(granted, case, before);
+    let answered = answered.into();
+    if (number, &call, after) == (0, &answered, bridge) {
         return Ok(());
     }
     Err(format!(
-        "{case:x?} gives {number}\nleft as {call:x?}\nexpected {answered:x?}\nrow {after:x?}\nexpected {row:x?}"
+        "{case:x?} gives {number}\nleft as {call:x?}\nexpected {answered:x?}\nbridge {after:x?}\nexpected {bridge:x?}"
     ))
 }
 
-/// The call and the row as document 01 leaves them.
-fn expected(granted: u32, case: &Case, before: sys::Row) -> (Call, sys::Row) {
+/// The call and the bridge as document 01 leaves them.
+fn expected(granted: u32, case: &Case, before: sys::HostBridge) -> (Osc, sys::HostBridge) {
     let status = if case.requested & !granted == 0 {
         0
     } else {
         0x10
     };
     let mut answered = case.call();
-    if let Call::Osc { answer, .. } = &mut answered {
-        answer.replace(&[status, SUPPORT, granted].map(u32::to_le_bytes).concat());
-    }
-    let row = match case.query {
+    let answer = [status, SUPPORT, granted].map(u32::to_le_bytes);
+    answered.answer.replace(&answer.concat());
+    let bridge = match case.query {
         true => before,
-        false => sys::Row {
+        false => sys::HostBridge {
             held: case.held | granted,
             supported: SUPPORTED | (SUPPORT & KNOWN),
             ..before
         },
     };
-    (answered, row)
+    (answered, bridge)
 }

@@ -1,11 +1,12 @@
 //! Places and addresses.
 
 use super::Bench;
-use crate::call::{Call, Handed};
+use crate::call::{Address, Locate, Start};
+use crate::given::{Given, Handed};
 use crate::mcfg::{self, Entry};
 use crate::places;
 use crate::random::Random;
-use crate::rows::{self, Row};
+use crate::row::Row;
 use crate::service::Pair;
 
 /// Sessions 0 to 16, of which 16 owns nothing, and the last number.
@@ -41,42 +42,40 @@ const ENTRIES: [Entry; 4] = [
     },
 ];
 
-/// Bridges at the edges of their entries, of one bus, touching, and with buses between them.
+/// Rows at the edges of their entries, of one bus, touching, and with buses between them.
 const ROWS: [Row; 9] = [
-    row(0, 0, 0, 0),
-    row(1, 0, 1, 15),
-    row(0, 0, 16, 31),
-    row(1, 1, 32, 40),
-    row(2, 1, 41, 41),
-    row(1, 1, 43, 63),
-    row(15, 0xFFFF, 128, 200),
-    row(0, 0xFFFF, 202, 254),
-    row(2, 0xFFFF, 255, 255),
+    Row::express(0, 0, 0, 0),
+    Row::express(1, 0, 1, 15),
+    Row::express(0, 0, 16, 31),
+    Row::express(1, 1, 32, 40),
+    Row::express(2, 1, 41, 41),
+    Row::express(1, 1, 43, 63),
+    Row::express(15, 0xFFFF, 128, 200),
+    Row::express(0, 0xFFFF, 202, 254),
+    Row::express(2, 0xFFFF, 255, 255),
 ];
 
-const fn row(owner: u8, segment: u16, first: u8, last: u8) -> Row {
-    Row {
-        owner,
-        segment,
-        first,
-        last,
-        kind: rows::EXPRESS,
-        permitted: 0x1F,
-    }
+/// Numbers that are those of a byte once their upper bits are lost, and the last number.
+fn beyond_a_byte() -> impl Iterator<Item = u32> {
+    let above = |bits: u32| (0..=0xFF).map(move |low| bits | low);
+    above(0x100)
+        .chain(above(0x1_0000))
+        .chain(above(0x8000_0000))
+        .chain([u32::MAX])
 }
 
 fn started(make: fn() -> Pair) -> Result<Bench, String> {
     let mcfg = mcfg::table(&mut Random::new(0), &ENTRIES);
-    let start = Call::Start {
+    let start = Start {
         mcfg: mcfg.into(),
-        rows: rows::bytes(&ROWS).into(),
+        rows: ROWS.to_vec().into(),
     };
-    Bench::new(make, vec![start])
+    Bench::new(make, vec![start.into()])
 }
 
-/// A place on bus 33, which bridge 3 has.
-fn place(device: u8, function: u8, offset: u16, width: u8) -> Call {
-    Call::Address {
+/// The address call for a place on bus 33, which bridge 3 has.
+fn asked(device: u32, function: u32, offset: u32, width: u32) -> Address {
+    Address {
         session: ROWS[3].owner,
         bridge: 3,
         bus: 33,
@@ -89,20 +88,29 @@ fn place(device: u8, function: u8, offset: u16, width: u8) -> Call {
 
 pub fn offsets_and_widths(make: fn() -> Pair) -> Result<u64, String> {
     let mut bench = started(make)?;
-    for offset in (0..=4200).chain([u16::MAX]) {
-        for width in 0..=u8::MAX {
-            bench.check(place(31, 7, offset, width))?;
+    let beyond = [0xFFFF, 0x1_0000, 0x1_0010, 0x1_0FFC, 0x8000_0000, u32::MAX];
+    for offset in (0..=4200).chain(beyond) {
+        for width in 0..=0xFF {
+            bench.check(asked(31, 7, offset, width))?;
         }
+    }
+    for width in beyond_a_byte() {
+        bench.check(asked(31, 7, 0, width))?;
     }
     Ok(bench.count)
 }
 
+/// Every pair of bytes, and the numbers beyond with what is sound beside them.
 pub fn devices_and_functions(make: fn() -> Pair) -> Result<u64, String> {
     let mut bench = started(make)?;
-    for device in 0..=u8::MAX {
-        for function in 0..=u8::MAX {
-            bench.check(place(device, function, 0xFFC, 4))?;
+    for device in 0..=0xFF {
+        for function in 0..=0xFF {
+            bench.check(asked(device, function, 0xFFC, 4))?;
         }
+    }
+    for beyond in beyond_a_byte() {
+        bench.check(asked(beyond, 7, 0xFFC, 4))?;
+        bench.check(asked(31, beyond, 0xFFC, 4))?;
     }
     Ok(bench.count)
 }
@@ -112,8 +120,8 @@ pub fn buses_and_sessions(make: fn() -> Pair) -> Result<u64, String> {
     let mut bench = started(make)?;
     for bridge in (0..=ROWS.len() as u8).chain([u8::MAX]) {
         for session in SESSIONS {
-            for bus in 0..=u8::MAX {
-                let call = Call::Address {
+            for bus in (0..=0xFF).chain(beyond_a_byte()) {
+                let call = Address {
                     session,
                     bridge,
                     bus,
@@ -122,8 +130,11 @@ pub fn buses_and_sessions(make: fn() -> Pair) -> Result<u64, String> {
                     offset: 4095,
                     width: 1,
                 };
-                let given = bench.check(call)?;
-                if let (0, Handed::Address(address)) = (given.number, given.handed) {
+                if let Some(Given {
+                    number: 0,
+                    handed: Handed::Address(address),
+                }) = bench.check(call)?
+                {
                     read_back(&mut bench, address)?;
                 }
             }
@@ -134,7 +145,7 @@ pub fn buses_and_sessions(make: fn() -> Pair) -> Result<u64, String> {
 
 fn read_back(bench: &mut Bench, address: u64) -> Result<(), String> {
     for session in SESSIONS {
-        bench.check(Call::Locate { session, address })?;
+        bench.check(Locate { session, address })?;
     }
     Ok(())
 }

@@ -1,10 +1,15 @@
 //! The proved library as C calls it.
 
+use std::mem::{align_of, offset_of, size_of};
+use std::ptr::{null, null_mut};
+
 use slipwattle::sys::{self, BridgeNumber, SessionNumber};
 
 use super::Service;
-use crate::buffer::{Buffer, Bytes, Words};
-use crate::call::{Call, Given, Handed};
+use crate::buffer::{Buffer, Item};
+use crate::call::{Address, Call, FindRecord, Locate, Osc, RegisterValues, Report, Reset, Start};
+use crate::given::{Given, Handed};
+use crate::row::Row;
 
 /// The table is an allocation of its own, so that a reading beside it can be seen.
 pub struct Boundary {
@@ -14,14 +19,16 @@ pub struct Boundary {
 impl Boundary {
     /// With the table with no bridges that a refused start gives.
     pub fn new() -> Boundary {
-        let none: Bytes = Vec::new().into();
-        let started = start(&mut none.clone(), &mut none.clone());
+        let nothing = Start {
+            mcfg: Vec::new().into(),
+            rows: Vec::new().into(),
+        };
         Boundary {
-            table: Box::new(started.table),
+            table: Box::new(start(&nothing).table),
         }
     }
 
-    /// The table itself, for those who set a row's permitted and held bits.
+    /// The table itself, for those who set a bridge's permitted and held bits.
     pub fn table(&mut self) -> &mut sys::Table {
         &mut self.table
     }
@@ -34,22 +41,60 @@ impl Default for Boundary {
 }
 
 /// The pointer to what is lent; NULL where the length is 0.
-fn pointer<T: Copy + From<u8>>(buffer: &mut Buffer<T>) -> *mut T {
+fn pointer<T: Item>(buffer: &Buffer<T>) -> *const T {
+    let lent = buffer.lent();
+    if lent.is_empty() {
+        null()
+    } else {
+        lent.as_ptr()
+    }
+}
+
+/// The same, to be changed.
+fn pointer_mut<T: Item>(buffer: &mut Buffer<T>) -> *mut T {
     let lent = buffer.lent_mut();
     if lent.is_empty() {
-        std::ptr::null_mut()
+        null_mut()
     } else {
         lent.as_mut_ptr()
     }
 }
 
-fn length<T: Copy + From<u8>>(buffer: &Buffer<T>) -> usize {
+fn length<T: Item>(buffer: &Buffer<T>) -> usize {
     buffer.lent().len()
 }
 
-fn start(mcfg: &mut Bytes, rows: &mut Bytes) -> sys::Started {
-    // SAFETY: each pointer leads to its length of bytes.
-    unsafe { sys::slipwattle_start(pointer(mcfg), length(mcfg), pointer(rows), length(rows)) }
+fn session(number: u8) -> SessionNumber {
+    SessionNumber { number }
+}
+
+fn bridge(number: u8) -> BridgeNumber {
+    BridgeNumber { number }
+}
+
+// Rows are lent as those of sys.
+const _: () = {
+    assert!(size_of::<Row>() == size_of::<sys::BridgeRow>());
+    assert!(align_of::<Row>() == align_of::<sys::BridgeRow>());
+    assert!(offset_of!(Row, permitted) == offset_of!(sys::BridgeRow, permitted));
+    assert!(offset_of!(Row, segment) == offset_of!(sys::BridgeRow, segment));
+    assert!(offset_of!(Row, owner) == offset_of!(sys::BridgeRow, owner));
+    assert!(offset_of!(Row, first) == offset_of!(sys::BridgeRow, first_bus));
+    assert!(offset_of!(Row, last) == offset_of!(sys::BridgeRow, last_bus));
+    assert!(offset_of!(Row, kind) == offset_of!(sys::BridgeRow, kind));
+};
+
+fn start(call: &Start) -> sys::Started {
+    let rows = pointer(&call.rows).cast::<sys::BridgeRow>();
+    // SAFETY: each pointer leads to its length of bytes or of rows, and a row is laid out as sys has it.
+    unsafe {
+        sys::slipwattle_start(
+            pointer(&call.mcfg),
+            length(&call.mcfg),
+            rows,
+            length(&call.rows),
+        )
+    }
 }
 
 impl Service for Boundary {
@@ -58,197 +103,121 @@ impl Service for Boundary {
     }
 
     fn call(&mut self, call: &mut Call) -> Given {
-        match call {
-            Call::Start { mcfg, rows } => self.start(mcfg, rows),
-            Call::Osc { .. } => self.osc(call),
-            Call::Reset { session, bridge } => {
-                let (session, bridge) = names(*session, *bridge);
-                // SAFETY: the table comes from a start.
-                let number = unsafe { sys::slipwattle_reset(&mut *self.table, session, bridge) };
-                Given {
-                    number,
-                    handed: Handed::Nothing,
-                }
-            }
-            Call::Report { session, bridge } => self.report(*session, *bridge),
-            Call::Address { .. } => self.address(call),
-            Call::Locate { session, address } => self.locate(*session, *address),
-            Call::FindRecord {
-                slot,
-                bridge_block,
-                record_type,
-            } => find_record(slot, bridge_block, *record_type),
-            Call::RegisterValues {
-                session,
-                bridge,
-                slot,
-                bridge_block,
-                current,
-            } => self.register_values(names(*session, *bridge), slot, bridge_block, current),
-        }
+        let (number, handed) = match call {
+            Call::Start(call) => self.start(call),
+            Call::Osc(call) => (self.osc(call), Handed::Nothing),
+            Call::Reset(call) => (self.reset(call), Handed::Nothing),
+            Call::Report(call) => self.report(call),
+            Call::Address(call) => self.address(call),
+            Call::Locate(call) => self.locate(call),
+            Call::FindRecord(call) => find_record(call),
+            Call::RegisterValues(call) => self.register_values(call),
+        };
+        Given { number, handed }
     }
-}
-
-fn names(session: u8, bridge: u8) -> (SessionNumber, BridgeNumber) {
-    (
-        SessionNumber { number: session },
-        BridgeNumber { number: bridge },
-    )
 }
 
 impl Boundary {
-    fn start(&mut self, mcfg: &mut Bytes, rows: &mut Bytes) -> Given {
-        let started = start(mcfg, rows);
+    fn start(&mut self, call: &Start) -> (u8, Handed) {
+        let started = start(call);
         *self.table = started.table;
-        Given {
-            number: started.number,
-            handed: Handed::Table {
-                bridges: started.table.count,
-            },
-        }
+        let bridges = started.table.count;
+        (started.number, Handed::Table { bridges })
     }
 
-    fn osc(&mut self, call: &mut Call) -> Given {
-        let Call::Osc {
-            session,
-            bridge,
-            revision,
-            count,
-            uuid,
-            capabilities,
-            answer,
-        } = call
-        else {
-            unreachable!("the call is _OSC");
-        };
-        let (session, bridge) = names(*session, *bridge);
+    fn osc(&mut self, call: &mut Osc) -> u8 {
         // SAFETY: the table comes from a start, each pointer leads to its length of bytes, and each buffer is an allocation of its own.
-        let number = unsafe {
+        unsafe {
             sys::slipwattle_osc(
                 &mut *self.table,
-                session,
-                bridge,
-                *revision,
-                *count,
-                pointer(uuid),
-                length(uuid),
-                pointer(capabilities),
-                length(capabilities),
-                pointer(answer),
-                length(answer),
+                session(call.session),
+                bridge(call.bridge),
+                call.revision,
+                call.count,
+                pointer(&call.uuid),
+                length(&call.uuid),
+                pointer(&call.capabilities),
+                length(&call.capabilities),
+                pointer_mut(&mut call.answer),
+                length(&call.answer),
             )
-        };
-        Given {
-            number,
-            handed: Handed::Nothing,
         }
     }
 
-    fn report(&mut self, session: u8, bridge: u8) -> Given {
-        let (session, bridge) = names(session, bridge);
+    fn reset(&mut self, call: &Reset) -> u8 {
+        let (session, bridge) = (session(call.session), bridge(call.bridge));
         // SAFETY: the table comes from a start.
-        let reported = unsafe { sys::slipwattle_report(&mut *self.table, session, bridge) };
-        let sys::Holding { held, supported } = reported.holding;
-        Given {
-            number: reported.number,
-            handed: Handed::Holding { held, supported },
-        }
+        unsafe { sys::slipwattle_reset(&mut *self.table, session, bridge) }
     }
 
-    fn address(&mut self, call: &Call) -> Given {
-        let Call::Address {
-            session,
-            bridge,
-            bus,
-            device,
-            function,
-            offset,
-            width,
-        } = *call
-        else {
-            unreachable!("the call is address");
-        };
-        let (session, bridge) = names(session, bridge);
+    fn report(&self, call: &Report) -> (u8, Handed) {
+        let (session, bridge) = (session(call.session), bridge(call.bridge));
+        // SAFETY: the table comes from a start.
+        let reported = unsafe { sys::slipwattle_report(&*self.table, session, bridge) };
+        let sys::Holding { held, supported } = reported.holding;
+        (reported.number, Handed::Holding { held, supported })
+    }
+
+    fn address(&self, call: &Address) -> (u8, Handed) {
         // SAFETY: the table comes from a start.
         let addressed = unsafe {
             sys::slipwattle_address(
-                &mut *self.table,
-                session,
-                bridge,
-                bus,
-                device,
-                function,
-                offset,
-                width,
+                &*self.table,
+                session(call.session),
+                bridge(call.bridge),
+                call.bus,
+                call.device,
+                call.function,
+                call.offset,
+                call.width,
             )
         };
-        Given {
-            number: addressed.number,
-            handed: Handed::Address(addressed.address),
-        }
+        (addressed.number, Handed::Address(addressed.address))
     }
 
-    fn locate(&mut self, session: u8, address: u64) -> Given {
-        let session = SessionNumber { number: session };
+    fn locate(&self, call: &Locate) -> (u8, Handed) {
         // SAFETY: the table comes from a start.
-        let located = unsafe { sys::slipwattle_locate(&mut *self.table, session, address) };
-        let sys::Place {
-            bridge,
-            bus,
-            device,
-            function,
-            offset,
-        } = located.place;
+        let located =
+            unsafe { sys::slipwattle_locate(&*self.table, session(call.session), call.address) };
+        let place = located.place;
         let handed = Handed::Place {
-            bridge: bridge.number,
-            bus,
-            device,
-            function,
-            offset,
+            bridge: place.bridge.number,
+            bus: place.bus,
+            device: place.device,
+            function: place.function,
+            offset: place.offset,
         };
-        Given {
-            number: located.number,
-            handed,
-        }
+        (located.number, handed)
     }
 
-    fn register_values(
-        &mut self,
-        (session, bridge): (SessionNumber, BridgeNumber),
-        slot: &mut Bytes,
-        bridge_block: &mut Bytes,
-        current: &mut Words,
-    ) -> Given {
+    fn register_values(&self, call: &RegisterValues) -> (u8, Handed) {
         // SAFETY: the table comes from a start, and each pointer leads to its length of bytes or of numbers.
         let values = unsafe {
             sys::slipwattle_register_values(
-                &mut *self.table,
-                session,
-                bridge,
-                pointer(slot),
-                length(slot),
-                pointer(bridge_block),
-                length(bridge_block),
-                pointer(current),
-                length(current),
+                &*self.table,
+                session(call.session),
+                bridge(call.bridge),
+                pointer(&call.slot),
+                length(&call.slot),
+                pointer(&call.bridge_block),
+                length(&call.bridge_block),
+                pointer(&call.current),
+                length(&call.current),
             )
         };
-        Given {
-            number: values.number,
-            handed: Handed::Values(values.values),
-        }
+        (values.number, Handed::Values(values.values))
     }
 }
 
-fn find_record(slot: &mut Bytes, bridge_block: &mut Bytes, record_type: u8) -> Given {
+fn find_record(call: &FindRecord) -> (u8, Handed) {
     // SAFETY: each pointer leads to its length of bytes.
     let found = unsafe {
         sys::slipwattle_find_record(
-            pointer(slot),
-            length(slot),
-            pointer(bridge_block),
-            length(bridge_block),
-            record_type,
+            pointer(&call.slot),
+            length(&call.slot),
+            pointer(&call.bridge_block),
+            length(&call.bridge_block),
+            call.record_type,
         )
     };
     let handed = Handed::Record {
@@ -256,8 +225,5 @@ fn find_record(slot: &mut Bytes, bridge_block: &mut Bytes, record_type: u8) -> G
         start: found.start,
         length: found.size,
     };
-    Given {
-        number: found.number,
-        handed,
-    }
+    (found.number, handed)
 }

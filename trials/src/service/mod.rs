@@ -1,16 +1,25 @@
 //! The programs that are compared: each is one service.
 
 mod boundary;
-mod rust_tables;
+mod program;
+mod reference;
+mod safe_crate;
 
+pub use self::reference::Reference;
 pub use boundary::Boundary;
-pub use rust_tables::{Reference, SafeCrate};
+pub use safe_crate::SafeCrate;
 
-use crate::call::{Call, Given};
+use crate::call::Call;
+use crate::given::Given;
 
 pub trait Service {
     /// What a reader knows the program as.
     fn name(&self) -> &'static str;
+
+    /// Whether the types of its interface have room for the call's numbers. A call for which they have none is not made.
+    fn takes(&self, _: &Call) -> bool {
+        true
+    }
 
     /// Makes one call on the table that the last start left, or on a table with no bridges before any start. The call's buffers are
     /// what is lent: the service leaves them as the call left them.
@@ -21,6 +30,13 @@ pub trait Service {
 pub struct Pair {
     pub left: Box<dyn Service>,
     pub right: Box<dyn Service>,
+}
+
+impl Pair {
+    /// Whether both take the call.
+    pub fn takes(&self, call: &Call) -> bool {
+        self.left.takes(call) && self.right.takes(call)
+    }
 }
 
 /// The proved library at the C boundary, and the reference implementation.

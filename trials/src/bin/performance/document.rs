@@ -7,6 +7,16 @@ use std::{fs, io, process::Command};
 const BEGIN: &str = "<!-- figures: begin -->\n";
 const END: &str = "<!-- figures: end -->\n";
 
+const COLUMNS: [&str; 7] = [
+    "Call",
+    "Proved library, ns",
+    "Reference, ns",
+    "Ratio",
+    "Least to greatest ratio",
+    "Proved library, instructions",
+    "Reference, instructions",
+];
+
 /// What a command prints, on one line.
 fn said(command: &str, argument: &str) -> String {
     let output = Command::new(command).arg(argument).output();
@@ -29,37 +39,49 @@ fn processor() -> String {
     format!("{} x {name}", names.len().max(1))
 }
 
-pub fn figures_as_text(figures: &[Figure]) -> String {
+pub fn figures_as_text(figures: &[Figure], instructions: Option<&[[u64; 2]]>) -> String {
+    // Writing to a String does not fail.
     let mut text = String::new();
     let _ = writeln!(
         text,
-        "Machine: {}; {}; {}; {}.",
+        "Machine: {}; {}; {}; {}; {}.",
         processor(),
         said("uname", "-sm"),
         said("rustc", "--version"),
-        said("rt", "version")
+        said("rt", "version"),
+        said("valgrind", "--version")
     );
     let _ = writeln!(
         text,
         "{REPEATS} repeats; in each the two sides took {TURNS} turns one after the other, and each side's quickest turn counts.\n"
     );
-    let _ = writeln!(
-        text,
-        "| Call | Proved library, ns | Reference, ns | Ratio | Least to greatest ratio |"
-    );
-    let _ = writeln!(text, "|---|---|---|---|---|");
-    for f in figures {
-        let (least, most) = (f.ratios[0], f.ratios[REPEATS - 1]);
-        let _ = writeln!(
-            text,
-            "| {} | {:.1} | {:.1} | {:.2} | {least:.2} to {most:.2} |",
-            f.name,
-            f.ours,
-            f.theirs,
-            f.ratio()
-        );
+    let _ = writeln!(text, "| {} |", COLUMNS.join(" | "));
+    let _ = writeln!(text, "|{}", "---|".repeat(COLUMNS.len()));
+    for (index, figure) in figures.iter().enumerate() {
+        let counted = counted(instructions, index);
+        let _ = writeln!(text, "| {} | {counted} |", timed(figure));
     }
     text
+}
+
+/// The name of the call and its times.
+fn timed(figure: &Figure) -> String {
+    let (least, most) = (figure.ratios[0], figure.ratios[REPEATS - 1]);
+    format!(
+        "{} | {:.1} | {:.1} | {:.2} | {least:.2} to {most:.2}",
+        figure.name,
+        figure.ours,
+        figure.theirs,
+        figure.ratio()
+    )
+}
+
+/// The instructions of a call on each side.
+fn counted(instructions: Option<&[[u64; 2]]>, index: usize) -> String {
+    match instructions {
+        Some(counts) => counts[index].map(|count| count.to_string()).join(" | "),
+        None => ["not counted"; 2].join(" | "),
+    }
 }
 
 /// Puts the text between the document's marks.

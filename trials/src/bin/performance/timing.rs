@@ -3,6 +3,8 @@
 use std::hint::black_box;
 use std::time::{Duration, Instant};
 
+use crate::cases::Runner;
+
 /// Repeats of each comparison; the spread is over these.
 pub const REPEATS: usize = 9;
 
@@ -27,13 +29,18 @@ impl Figure {
     }
 }
 
-/// Nanoseconds a call, over `calls` calls.
-fn turn<A>(calls: u32, call: &mut impl FnMut() -> A) -> f64 {
-    let begun = Instant::now();
+/// Makes a call so many times. What it hands back is kept in memory.
+pub fn repeat<A>(calls: u32, call: &mut impl FnMut() -> A) {
     for _ in 0..calls {
         let answer = call();
         black_box(&answer);
     }
+}
+
+/// Nanoseconds a call, over `calls` calls.
+fn turn<A>(calls: u32, call: &mut impl FnMut() -> A) -> f64 {
+    let begun = Instant::now();
+    repeat(calls, call);
     begun.elapsed().as_nanos() as f64 / f64::from(calls)
 }
 
@@ -58,25 +65,34 @@ fn deeper<R>(steps: usize, inner: &mut dyn FnMut() -> R) -> R {
     result
 }
 
-/// The proved library's call and the reference's, turn by turn. Each repeat stands at another place of the stack.
-pub fn timed<A, B>(
-    name: &'static str,
-    mut ours: impl FnMut() -> A,
-    mut theirs: impl FnMut() -> B,
-) -> Figure {
-    let calls = calls_in_a_turn(&mut ours).max(calls_in_a_turn(&mut theirs));
-    let mut repeats = [(f64::INFINITY, f64::INFINITY); REPEATS];
-    for (place, repeat) in repeats.iter_mut().enumerate() {
-        for _ in 0..TURNS {
-            repeat.0 = deeper(place, &mut || turn(calls, &mut ours)).min(repeat.0);
-            repeat.1 = deeper(place, &mut || turn(calls, &mut theirs)).min(repeat.1);
+/// Times each case.
+#[derive(Default)]
+pub struct Timing {
+    pub figures: Vec<Figure>,
+}
+
+impl Runner for Timing {
+    /// The two sides take turns. Each repeat is at another depth of the stack.
+    fn case<A, B>(
+        &mut self,
+        name: &'static str,
+        mut ours: impl FnMut() -> A,
+        mut theirs: impl FnMut() -> B,
+    ) {
+        let calls = calls_in_a_turn(&mut ours).max(calls_in_a_turn(&mut theirs));
+        let mut repeats = [(f64::INFINITY, f64::INFINITY); REPEATS];
+        for (depth, repeat) in repeats.iter_mut().enumerate() {
+            for _ in 0..TURNS {
+                repeat.0 = deeper(depth, &mut || turn(calls, &mut ours)).min(repeat.0);
+                repeat.1 = deeper(depth, &mut || turn(calls, &mut theirs)).min(repeat.1);
+            }
         }
-    }
-    Figure {
-        name,
-        ours: rising(repeats.map(|r| r.0))[REPEATS / 2],
-        theirs: rising(repeats.map(|r| r.1))[REPEATS / 2],
-        ratios: rising(repeats.map(|r| r.0 / r.1)),
+        self.figures.push(Figure {
+            name,
+            ours: rising(repeats.map(|r| r.0))[REPEATS / 2],
+            theirs: rising(repeats.map(|r| r.1))[REPEATS / 2],
+            ratios: rising(repeats.map(|r| r.0 / r.1)),
+        });
     }
 }
 

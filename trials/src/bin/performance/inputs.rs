@@ -1,0 +1,110 @@
+//! What the calls are given: MCFG tables, rows, tables, record blocks.
+
+use slipwattle::sys;
+use trials::blocks::{field, numbers_field};
+use trials::mcfg::{self, Entry};
+use trials::random::Random;
+
+/// The bridge that most calls name; bridge number and owner are the same number in every table here.
+pub const BRIDGE: u8 = 9;
+
+/// An MCFG table: entry `k` is segment `k`, buses 0 to 255, a window of its own.
+pub fn mcfg_table(entries: u8) -> Vec<u8> {
+    let entry = |k: u8| Entry {
+        base: (u64::from(k) + 1) << 32,
+        segment: k.into(),
+        start: 0,
+        end: 255,
+    };
+    let entries: Vec<Entry> = (0..entries).map(entry).collect();
+    mcfg::table(&mut Random::new(1), &entries)
+}
+
+/// Row `k` of owner `k`: 16 buses of segment `k` or, where all are in one, of segment 0.
+pub fn rows(count: u8, one_segment: bool) -> Vec<sys::BridgeRow> {
+    let row = |k: u8| sys::BridgeRow {
+        permitted: 0x1F,
+        segment: if one_segment { 0 } else { k.into() },
+        owner: session(k).0,
+        first_bus: 16 * k,
+        last_bus: 16 * k + 15,
+        kind: 0,
+    };
+    (0..count).map(row).collect()
+}
+
+/// The same rows for the reference.
+pub fn their_rows(rows: &[sys::BridgeRow]) -> Vec<reference::BridgeRow> {
+    let row = |row: &sys::BridgeRow| reference::BridgeRow {
+        owner: session(row.owner.number).1,
+        segment: row.segment,
+        first_bus: row.first_bus,
+        last_bus: row.last_bus,
+        kind: row.kind,
+        permitted: row.permitted,
+    };
+    rows.iter().map(row).collect()
+}
+
+pub fn session(number: u8) -> (sys::SessionNumber, reference::SessionNumber) {
+    (
+        sys::SessionNumber { number },
+        reference::SessionNumber(number),
+    )
+}
+
+pub fn bridge(number: u8) -> (sys::BridgeNumber, reference::BridgeNumber) {
+    (
+        sys::BridgeNumber { number },
+        reference::BridgeNumber(number),
+    )
+}
+
+/// The same table on both sides.
+pub struct Tables {
+    pub ours: sys::Table,
+    pub theirs: reference::Table,
+}
+
+/// Tables with a bridge for each of 16 rows.
+pub fn tables() -> Tables {
+    let (m, r) = (mcfg_table(16), rows(16, false));
+    // SAFETY: pointers and lengths of two slices.
+    let started = unsafe { sys::slipwattle_start(m.as_ptr(), m.len(), r.as_ptr(), r.len()) };
+    assert_eq!(started.number, 0);
+    let theirs = reference::Table::start(&m, &their_rows(&r)).expect("a sound start");
+    Tables {
+        ours: started.table,
+        theirs,
+    }
+}
+
+/// The 42-byte example of document 01's bench sheet.
+pub fn example_block() -> Vec<u8> {
+    [
+        numbers_field(0, 1, &[8, 0x40, 1, 0]),
+        numbers_field(1, 1, &[3, 4, 7]),
+    ]
+    .concat()
+}
+
+/// A type 2 record, 71 bytes.
+pub fn type_2() -> Vec<u8> {
+    let pairs = [
+        [0xFFFF_FFF0, 6],
+        [0xFFFF, 0x10],
+        [0xFFF, 0],
+        [0xFF, 1],
+        [0xFFF0, 6],
+        [0xFFF0, 6],
+        [0xFFFF_FFFF, 0],
+        [0xFFFF_FFF0, 6],
+    ];
+    numbers_field(2, 1, pairs.as_flattened())
+}
+
+/// The three records behind 81 skipped fields of 8 bytes, 1,004 bytes in all.
+pub fn long_block() -> Vec<u8> {
+    let skipped: Vec<u8> = (0..81).flat_map(|_| field(0x80, &[0x55; 8])).collect();
+    [skipped, example_block(), type_2()].concat()
+}

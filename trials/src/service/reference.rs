@@ -1,0 +1,53 @@
+//! The reference implementation.
+
+use reference::BridgeRow;
+
+use super::Service;
+use super::program::{position, program};
+use crate::call::{Address, Call, FindRecord, Locate, Osc, RegisterValues, Report, Reset, Start};
+use crate::given::{Given, Handed};
+use crate::row::Row;
+
+program!(Reference, reference);
+
+impl Service for Reference {
+    fn name(&self) -> &'static str {
+        "reference"
+    }
+
+    fn call(&mut self, call: &mut Call) -> Given {
+        self.made(call)
+    }
+}
+
+fn no_bridges() -> Table {
+    Table::empty()
+}
+
+fn start(call: &Start) -> Result<Table, Refusal> {
+    let rows: Vec<BridgeRow> = call.rows.lent().iter().map(bridge_row).collect();
+    Table::start(call.mcfg.lent(), &rows)
+}
+
+fn bridge_row(row: &Row) -> BridgeRow {
+    BridgeRow {
+        owner: SessionNumber(row.owner),
+        segment: row.segment,
+        first_bus: row.first,
+        last_bus: row.last,
+        kind: row.kind,
+        permitted: row.permitted,
+    }
+}
+
+fn address(table: &Table, call: &Address) -> Result<u64, Refusal> {
+    table.address(
+        SessionNumber(call.session),
+        BridgeNumber(call.bridge),
+        call.bus,
+        call.device,
+        call.function,
+        call.offset,
+        call.width,
+    )
+}

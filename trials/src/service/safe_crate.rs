@@ -1,0 +1,77 @@
+//! The safe crate over the proved library. Its types have no room for a kind but the two, and less for a place than the C boundary's.
+
+use slipwattle::{BridgeKind, BridgeRow, Place};
+
+use super::Service;
+use super::program::{position, program};
+use crate::call::{Address, Call, FindRecord, Locate, Osc, RegisterValues, Report, Reset, Start};
+use crate::given::{Given, Handed};
+use crate::mcfg;
+use crate::random::Random;
+use crate::row::{CONVENTIONAL, EXPRESS, Row};
+
+program!(SafeCrate, slipwattle);
+
+impl Service for SafeCrate {
+    fn name(&self) -> &'static str {
+        "safe crate"
+    }
+
+    fn takes(&self, call: &Call) -> bool {
+        match call {
+            Call::Start(call) => bridge_rows(call).is_some(),
+            Call::Address(call) => place(call).is_some(),
+            _ => true,
+        }
+    }
+
+    fn call(&mut self, call: &mut Call) -> Given {
+        self.made(call)
+    }
+}
+
+/// The crate gives no table with a refused start, so the calls after one run on a started table with no rows.
+fn no_bridges() -> Table {
+    let no_entries = mcfg::table(&mut Random::new(0), &[]);
+    Table::start(&no_entries, &[]).expect("no entries and no rows are sound")
+}
+
+fn start(call: &Start) -> Result<Table, Refusal> {
+    let rows = bridge_rows(call).expect("the service takes the call");
+    Table::start(call.mcfg.lent(), &rows)
+}
+
+/// The rows as the crate takes them, in an allocation of exactly their length.
+fn bridge_rows(call: &Start) -> Option<Box<[BridgeRow]>> {
+    call.rows.lent().iter().map(bridge_row).collect()
+}
+
+fn bridge_row(row: &Row) -> Option<BridgeRow> {
+    Some(BridgeRow {
+        permitted: row.permitted,
+        segment: row.segment,
+        owner: SessionNumber(row.owner),
+        first_bus: row.first,
+        last_bus: row.last,
+        kind: match row.kind {
+            EXPRESS => BridgeKind::Express,
+            CONVENTIONAL => BridgeKind::Conventional,
+            _ => return None,
+        },
+    })
+}
+
+fn address(table: &Table, call: &Address) -> Result<u64, Refusal> {
+    let place = place(call).expect("the service takes the call");
+    table.address(SessionNumber(call.session), place, call.width)
+}
+
+fn place(call: &Address) -> Option<Place> {
+    Some(Place {
+        bridge: BridgeNumber(call.bridge),
+        bus: call.bus.try_into().ok()?,
+        device: call.device.try_into().ok()?,
+        function: call.function.try_into().ok()?,
+        offset: call.offset.try_into().ok()?,
+    })
+}

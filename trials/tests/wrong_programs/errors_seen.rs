@@ -1,0 +1,180 @@
+//! Every line of document 01's "Errors we have seen".
+
+use trials::call::{Call, FindRecord, Report};
+use trials::given::{Given, Handed};
+use trials::mcfg;
+use trials::requests::{PRINTED_UUID, UUID};
+use trials::service::Service;
+
+use crate::wrong::{Wrong, found, found_exhaustively, pair, short_names};
+
+const AER: u32 = 1 << 3;
+
+fn little_endian(bytes: &[u8], index: usize) -> u32 {
+    let (words, _) = bytes.as_chunks::<4>();
+    u32::from_le_bytes(words[index])
+}
+
+/// Whether the call was a right one, by its answer.
+fn judged(given: Given, answer: &[u8]) -> bool {
+    given.number == 0 && matches!(answer[0], 0x00 | 0x10)
+}
+
+fn drops_held_bits(wrong: &mut Wrong, call: &mut Call) -> Given {
+    let mut given = wrong.reference.call(call);
+    match call {
+        Call::Start(_) => wrong.granted.clear(),
+        Call::Reset(reset) if given.number == 0 => {
+            wrong.granted.remove(&reset.bridge);
+        }
+        Call::Osc(osc)
+            if judged(given, osc.answer.lent()) && osc.capabilities.lent()[0] & 1 == 0 =>
+        {
+            let granted = little_endian(osc.answer.lent(), 2);
+            wrong.granted.insert(osc.bridge, granted);
+        }
+        Call::Report(report) if given.number == 0 => {
+            if let Handed::Holding { held, .. } = &mut given.handed {
+                *held = wrong.granted.get(&report.bridge).copied().unwrap_or(0);
+            }
+        }
+        _ => {}
+    }
+    given
+}
+
+#[test]
+fn a_held_bit_dropped_because_a_later_call_left_it_out() {
+    let found = found(|| pair(drops_held_bits));
+    assert_eq!(short_names(&found), ["start", "osc", "osc"]);
+}
+
+fn takes_on_a_query(wrong: &mut Wrong, call: &mut Call) -> Given {
+    let Call::Osc(query) = call else {
+        return wrong.reference.call(call);
+    };
+    let mut taking = query.clone();
+    if let Some(status) = taking.capabilities.lent_mut().first_mut() {
+        *status &= !1;
+    }
+    let mut made = taking.into();
+    let given = wrong.reference.call(&mut made);
+    if let Call::Osc(taking) = made {
+        query.answer = taking.answer;
+    }
+    given
+}
+
+#[test]
+fn the_table_changed_on_a_query() {
+    let found = found(|| pair(takes_on_a_query));
+    assert_eq!(short_names(&found), ["start", "osc"]);
+}
+
+fn subtracts_start_bus(wrong: &mut Wrong, call: &mut Call) -> Given {
+    let mut given = wrong.reference.call(call);
+    if let (0, Call::Address(place), Some(start), Handed::Address(address)) =
+        (given.number, call, &wrong.start, &mut given.handed)
+    {
+        let row = start.rows.lent()[usize::from(place.bridge)];
+        let entries = mcfg::read(start.mcfg.lent());
+        let entry = row.entry(&entries).expect("the row is sound");
+        *address -= u64::from(entry.start) * mcfg::BUS_BYTES;
+    }
+    given
+}
+
+#[test]
+fn the_start_bus_subtracted() {
+    let found = found(|| pair(subtracts_start_bus));
+    assert_eq!(short_names(&found), ["start", "address"]);
+    let why = found_exhaustively(|| pair(subtracts_start_bus));
+    assert!(why.contains("call 1: address"), "{why}");
+}
+
+fn accepts_printed_uuid(wrong: &mut Wrong, call: &mut Call) -> Given {
+    let printed = matches!(call, Call::Osc(osc) if osc.uuid.lent() == PRINTED_UUID);
+    if let (true, Call::Osc(osc)) = (printed, &mut *call) {
+        osc.uuid.replace(&UUID);
+    }
+    let given = wrong.reference.call(call);
+    if let (true, Call::Osc(osc)) = (printed, call) {
+        osc.uuid.replace(&PRINTED_UUID);
+    }
+    given
+}
+
+#[test]
+fn the_uuid_in_printed_order_accepted() {
+    let found = found(|| pair(accepts_printed_uuid));
+    assert_eq!(short_names(&found), ["start", "osc"]);
+}
+
+fn grants_hot_plug_with_a_forbidden_bit_4(wrong: &mut Wrong, call: &mut Call) -> Given {
+    let given = wrong.reference.call(call);
+    if let (Call::Osc(osc), Some(start)) = (call, &wrong.start)
+        && judged(given, osc.answer.lent())
+    {
+        let row = start.rows.lent()[usize::from(osc.bridge)];
+        let requested = little_endian(osc.capabilities.lent(), 2);
+        if row.permitted & 0x11 == 0x01 && requested & 0x11 == 0x11 {
+            osc.answer.lent_mut()[8] |= 1;
+        }
+    }
+    given
+}
+
+#[test]
+fn hot_plug_granted_on_a_requested_but_forbidden_bit_4() {
+    let found = found(|| pair(grants_hot_plug_with_a_forbidden_bit_4));
+    assert_eq!(short_names(&found), ["start", "osc"]);
+}
+
+fn ors_before_it_ands(wrong: &mut Wrong, call: &mut Call) -> Given {
+    let mut given = wrong.reference.call(call);
+    let (Call::RegisterValues(asked), Handed::Values(values), 0) =
+        (call, &mut given.handed, given.number)
+    else {
+        return given;
+    };
+    let (session, bridge) = (asked.session, asked.bridge);
+    let report = wrong.reference.call(&mut Report { session, bridge }.into());
+    let aer = matches!(report.handed, Handed::Holding { held, .. } if held & AER != 0);
+    let record = reference::find_record(asked.slot.lent(), asked.bridge_block.lent(), 2)
+        .expect("the call was done");
+    for (index, value) in values.iter_mut().enumerate() {
+        if !aer || matches!(index, 4 | 5) {
+            let [and, or] = [0, 1].map(|mask| little_endian(&record[7..], 2 * index + mask));
+            *value = (asked.current.lent()[index] | or) & and;
+        }
+    }
+    given
+}
+
+#[test]
+fn or_before_and() {
+    let found = found(|| pair(ors_before_it_ands));
+    assert_eq!(short_names(&found), ["start", "osc", "register_values"]);
+    let why = found_exhaustively(|| pair(ors_before_it_ands));
+    assert!(why.contains("call 2: register_values"), "{why}");
+}
+
+fn searches_the_bridges_block_too(wrong: &mut Wrong, call: &mut Call) -> Given {
+    let given = wrong.reference.call(call);
+    match (given.number, call) {
+        (9, Call::FindRecord(asked)) => {
+            let instead = FindRecord {
+                slot: Vec::new().into(),
+                ..asked.clone()
+            };
+            wrong.reference.call(&mut instead.into())
+        }
+        _ => given,
+    }
+}
+
+#[test]
+fn the_bridges_block_searched_when_the_slots_has_no_such_record() {
+    let found = found(|| pair(searches_the_bridges_block_too));
+    assert_eq!(short_names(&found), ["find_record"]);
+}

@@ -1,0 +1,73 @@
+//! The reference with one wrong rule, and the list that shows it.
+
+use std::collections::HashMap;
+
+use trials::call::{Call, Start};
+use trials::counts::Counts;
+use trials::exhaustive;
+use trials::given::Given;
+use trials::random_trials::{self, Found, Setting};
+use trials::service::{Pair, Reference, Service};
+
+pub type Rule = fn(&mut Wrong, &mut Call) -> Given;
+
+pub struct Wrong {
+    pub reference: Reference,
+    pub start: Option<Start>,
+    /// The bits that the last taking call on each bridge granted.
+    pub granted: HashMap<u8, u32>,
+    rule: Rule,
+}
+
+impl Service for Wrong {
+    fn name(&self) -> &'static str {
+        "wrong program"
+    }
+
+    fn call(&mut self, call: &mut Call) -> Given {
+        if let Call::Start(start) = call {
+            self.start = Some(start.clone());
+        }
+        (self.rule)(self, call)
+    }
+}
+
+pub fn pair(rule: Rule) -> Pair {
+    let left = Wrong {
+        reference: Reference::new(),
+        start: None,
+        granted: HashMap::new(),
+        rule,
+    };
+    Pair {
+        left: Box::new(left),
+        right: Box::new(Reference::new()),
+    }
+}
+
+/// The shortest list that shows the wrong rule.
+pub fn found(make: fn() -> Pair) -> Box<Found> {
+    let setting = Setting {
+        seed: 1,
+        calls: 100_000,
+        exact: false,
+    };
+    let result = random_trials::run(&setting, &[make], &mut Counts::default());
+    result.expect_err("the wrong program is found")
+}
+
+/// The names of the calls; a start has one entry and one row.
+pub fn short_names(found: &Found) -> Vec<&'static str> {
+    for call in &found.list {
+        if let Call::Start(start) = call {
+            let lengths = (start.mcfg.lent().len(), start.rows.lent().len());
+            assert_eq!(lengths, (60, 1), "{}", found.report());
+        }
+    }
+    found.list.iter().map(Call::name).collect()
+}
+
+/// The list that shows the wrong rule in an exhaustive comparison, in words.
+pub fn found_exhaustively(make: fn() -> Pair) -> String {
+    exhaustive::run(make, &mut |_, _| ()).expect_err("it is found")
+}
