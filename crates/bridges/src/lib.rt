@@ -1,13 +1,12 @@
-// The calls on the whole table, by value: each is the call on one row, with the row stored back. The index stays inside the array; the call on the row refuses a bridge
+// The calls on the whole table, by value: each is the call on one bridge, with the bridge stored back. The index stays inside the array; the call on the bridge refuses a bridge
 // that the table has not.
-use hpx::Values;
-use locate::Located;
-use rows::Addressed;
-use rows::Reported;
+use rules::Addressed;
 use rules::BridgeNumber;
-use rules::MAX_ROWS;
+use rules::Located;
+use rules::Reported;
 use rules::SessionNumber;
 use rules::Table;
+use rules::Values;
 ghost use mathlib.Core.Path.{_≡_};
 ghost use mathlib.Core.List.{[], _∷_};
 ghost use Rattle.rules.specs.Start.{Sound};
@@ -38,11 +37,11 @@ pub fn reset(t: Table, s: SessionNumber, n: BridgeNumber) -> TableDone
     requires { ⌜ Sound t ⌝ }
     ensures { λ r. ⌜ (outcome (r .number) nothing [] ≡ step t (on s n reset) .outcome) × (r .table ≡ step t (on s n reset) .table) ⌝ }
 {
-    let i = (n.0 as usize) % MAX_ROWS;
-    let done = rows::reset(t.count, t.bridges[i], s, n);
-    let row = done.row;
+    let i = one_bridge::index(n);
+    let done = one_bridge::reset(t.count, t.bridges[i], s, n);
+    let bridge = done.bridge;
     let mut next = t;
-    next.bridges[i] = row;
+    next.bridges[i] = bridge;
     TableDone {
         number: done.number,
         table: next,
@@ -53,8 +52,8 @@ pub fn report(t: Table, s: SessionNumber, n: BridgeNumber) -> Reported
     requires { ⌜ Sound t ⌝ }
     ensures { λ r. ⌜ (outcome (r .number) (reported (r .holding)) [] ≡ step t (on s n report) .outcome) × (t ≡ step t (on s n report) .table) ⌝ }
 {
-    let i = (n.0 as usize) % MAX_ROWS;
-    rows::report(t.count, t.bridges[i], s, n)
+    let i = one_bridge::index(n);
+    one_bridge::report(t.count, t.bridges[i], s, n)
 }
 
 pub fn osc(
@@ -72,12 +71,12 @@ pub fn osc(
         ≡ step t (on s n (osc revision count (now (uuid .entry)) (now (caps .entry)) (now (answer .entry)))) .outcome)
         × (r .table ≡ step t (on s n (osc revision count (now (uuid .entry)) (now (caps .entry)) (now (answer .entry)))) .table) ⌝ }
 {
-    let i = (n.0 as usize) % MAX_ROWS;
+    let i = one_bridge::index(n);
     let b = t.bridges[i];
-    let done = rows::osc(t.count, b, s, n, revision, count, uuid, caps, answer);
-    let row = done.row;
+    let done = one_bridge::osc(t.count, b, s, n, revision, count, uuid, caps, answer);
+    let bridge = done.bridge;
     let mut after = t;
-    after.bridges[i] = row;
+    after.bridges[i] = bridge;
     TableDone {
         number: done.number,
         table: after,
@@ -98,9 +97,9 @@ pub fn address(
     ensures { λ r. ⌜ (outcome (r .number) (addressed (r .address)) [] ≡ step t (on s n (address bus device function offset width)) .outcome)
         × (t ≡ step t (on s n (address bus device function offset width)) .table) ⌝ }
 {
-    let i = (n.0 as usize) % MAX_ROWS;
+    let i = one_bridge::index(n);
     let b = t.bridges[i];
-    rows::address(t.count, b, s, n, bus, device, function, offset, width)
+    one_bridge::address(t.count, b, s, n, bus, device, function, offset, width)
 }
 
 pub fn register_values<'a>(
@@ -116,8 +115,8 @@ pub fn register_values<'a>(
         ≡ step t (on s n (registerValues (now (slot .entry)) (now (block .entry)) (now (current .entry)))) .outcome)
         × (t ≡ step t (on s n (registerValues (now (slot .entry)) (now (block .entry)) (now (current .entry)))) .table) ⌝ }
 {
-    let i = (n.0 as usize) % MAX_ROWS;
-    rows::register_values(t.count, t.bridges[i], s, n, slot, block, current)
+    let i = one_bridge::index(n);
+    one_bridge::register_values(t.count, t.bridges[i], s, n, slot, block, current)
 }
 
 // The first bridge of the session whose window has the address; windows of one table share no byte.

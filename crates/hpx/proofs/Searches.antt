@@ -14,7 +14,7 @@ use Rattle.rules.specs.Lists.{every, first, isNone}
 use Rattle.rules.specs.Refusals.{firstOf}
 use Rattle.rules.specs.Records.{fieldAt, fieldsOf, value, isRecord, recordSize, valuesSound, fieldSound, soundFields, blockSound, deciding, recordAmong, recordIn, recordRefusals, foundBy, findRecord, registersBad, newValue, newValues}
 use Rattle.rules.specs.declared.Field.{Field}
-use Rattle.rules.specs.declared.Found.{Found}
+use Rattle.rules.specs.declared.FoundAt.{FoundAt}
 use Rattle.rules.proofs.Tests.{and-true, and-l, and-r, and-off, or-false}
 use Rattle.rules.proofs.Refusals.{clear}
 use Rattle.rules.proofs.Records.{record-part}
@@ -115,7 +115,7 @@ type-2-fits slot block e =
 pub eight-numbers : (current : List ℕ) → registersBad current ≡ false → length current ≡ 8
 eight-numbers current e = eqb-true (length current) 8 (not-false (eqb (length current) 8) (or-false _ _ (or-false _ _ e .0) .0))
 
--- the new values use a field's place only
+-- the new values use of a field only where it starts
 by-start : (aer : Bool) (l : List ℕ) (f g : Field) → f .start ≡ g .start → (k : ℕ) (current : List ℕ) → newValues aer l f k current ≡ newValues aer l g k current
 by-start aer l f g e k [] = refl
 by-start aer l f g e k (c ∷ current) =
@@ -133,11 +133,11 @@ found-values aer l current (suc k) o z n = absurd (omega arith)
 
 -- ---- what a search answered, and the block that decided, as the code has them
 
-module _ (slot block : List ℕ) (type : ℕ) (r : Found) (e : r ≡ findRecord slot block type) where
+module _ (slot block : List ℕ) (type : ℕ) (r : FoundAt) (e : r ≡ findRecord slot block type) where
   pub number-found : r .number ≡ firstOf (recordRefusals slot block type)
-  number-found = ap (λ (q : Found). q .number) e ∙ number-is (firstOf (recordRefusals slot block type)) (recordIn (deciding slot block) type)
+  number-found = ap (λ (q : FoundAt). q .number) e ∙ number-is (firstOf (recordRefusals slot block type)) (recordIn (deciding slot block) type)
 
-module _ (slot block : List ℕ) (r : Found) (e : r ≡ findRecord slot block 2) (aer : Bool) (current : List ℕ) where
+module _ (slot block : List ℕ) (r : FoundAt) (e : r ≡ findRecord slot block 2) (aer : Bool) (current : List ℕ) where
   pub values-refused : (r .number ≡ 0 → ⊥)
       → replicate 8 0 ≡ valuesAt (firstOf (recordRefusals slot block 2)) aer (deciding slot block) current (recordIn (deciding slot block) 2)
   values-refused n =
@@ -146,12 +146,12 @@ module _ (slot block : List ℕ) (r : Found) (e : r ≡ findRecord slot block 2)
 
   module _ (l : List ℕ) (d : l ≡ deciding slot block) (z : r .number ≡ 0) where
     pub pairs-inside : 71 + r .start ≤ length l
-    pairs-inside = rw (e, d) (type-2-fits slot block (sym (ap (λ (q : Found). q .number) e) ∙ z))
+    pairs-inside = rw (e, d) (type-2-fits slot block (sym (ap (λ (q : FoundAt). q .number) e) ∙ z))
 
     pub values-found : newValues aer l (fieldAt l (r .start)) 0 current
         ≡ valuesAt (firstOf (recordRefusals slot block 2)) aer (deciding slot block) current (recordIn (deciding slot block) 2)
     values-found =
         let none : firstOf (recordRefusals slot block 2) ≡ 0 = sym (number-found slot block 2 r e) ∙ z in
-        ap₂ (λ (m : List ℕ) (q : Found). newValues aer m (fieldAt m (q .start)) 0 current) d e
+        ap₂ (λ (m : List ℕ) (q : FoundAt). newValues aer m (fieldAt m (q .start)) 0 current) d e
         ∙ found-values aer (deciding slot block) current (firstOf (recordRefusals slot block 2)) (recordIn (deciding slot block) 2) none
         (finds slot block 2 none .is-there)

@@ -1,10 +1,12 @@
 // _HPX setting records: which block decides, the record search, the new register values.
 use rules::Found;
+use rules::FoundAt;
+use rules::Values;
 ghost use mathlib.Core.Path.{_≡_};
 ghost use mathlib.Core.Bool.{false};
 ghost use Prim.Native.Nat.{_+_, _<_, _≤_};
 ghost use lib.ListN.{length, getD};
-ghost use Rattle.rules.specs.Records.{fieldAt, deciding, recordIn, recordRefusals, findRecord, decidingAt, registersBad, newValues};
+ghost use Rattle.rules.specs.Records.{fieldAt, deciding, recordIn, recordRefusals, findRecord, part, decidingAt, partAt, registersBad, newValues};
 ghost use Rattle.rules.specs.Refusals.{firstOf};
 ghost use Rattle.hpx.specs.Answers.{keptOrNew, valuesAt};
 
@@ -19,11 +21,37 @@ pub fn deciding<'a>(slot: &'a [u8], block: &'a [u8]) -> &'a [u8]
     slot
 }
 
-// The record search: its number, and the place of the record in the deciding block.
-pub fn search<'a>(slot: &'a [u8], block: &'a [u8], record_type: u32) -> Found
+// The record search: its number, and where the record lies in the deciding block.
+pub fn search<'a>(slot: &'a [u8], block: &'a [u8], record_type: u32) -> FoundAt
     ensures { λ r. ⌜ r ≡ findRecord (now (slot .entry)) (now (block .entry)) record_type ⌝ }
 {
     records::search_block(deciding(slot, block), record_type)
+}
+
+// The part of whichever block decided, where the record lies in it.
+fn record_part<'a>(slot: &'a [u8], block: &'a [u8], at: FoundAt) -> &'a [u8]
+    requires { ⌜ at .start + at .size ≤ length (deciding (now slot) (now block)) ⌝ }
+    ensures { λ r. ⌜ (now r ≡ part at (deciding (now (slot .entry)) (now (block .entry))))
+        × (r .ptr ≡ partAt at (decidingAt (now (slot .entry)) (slot .entry .ptr) (block .entry .ptr))) ⌝ }
+{
+    let b = deciding(slot, block);
+    let start = at.start;
+    let end = at.start + at.size;
+    &b[start..end]
+}
+
+// The record search, in one pass over the block. The struct holds a reference, so the proof walks the code by hand.
+pub fn find_record<'a>(slot: &'a [u8], block: &'a [u8], record_type: u32) -> Found<'a>
+    ensures { λ r. ⌜ (r .number ≡ findRecord (now (slot .entry)) (now (block .entry)) record_type .number)
+        × (now (r .part) ≡ part (findRecord (now (slot .entry)) (now (block .entry)) record_type) (deciding (now (slot .entry)) (now (block .entry))))
+        × (r .part .ptr ≡ partAt (findRecord (now (slot .entry)) (now (block .entry)) record_type)
+        (decidingAt (now (slot .entry)) (slot .entry .ptr) (block .entry .ptr))) ⌝ }
+{
+    let at = search(slot, block, record_type);
+    Found {
+        number: at.number,
+        part: record_part(slot, block, at),
+    }
 }
 
 // Refusal 10: not 8 numbers, or Device Control or Link Control above 65535.
@@ -36,7 +64,7 @@ pub fn registers_bad(current: &[u32]) -> bool
     (65535 < current[4]) | (65535 < current[5])
 }
 
-// The new value of register k by the record that starts at a place of the block, or the current one.
+// The new value of register k by the record that starts at this byte of the block, or the current one.
 fn register(b: &[u8], start: usize, current: &[u32], k: usize, stays: bool) -> u32
     requires { ⌜ (length (now current) ≡ 8) × (71 + start ≤ length (now b)) × (k < 8) ⌝ }
     ensures { λ r. ⌜ r ≡ keptOrNew stays (now (b .entry)) (fieldAt (now (b .entry)) start) k (getD (now (current .entry)) k 0) ⌝ }
@@ -49,7 +77,7 @@ fn register(b: &[u8], start: usize, current: &[u32], k: usize, stays: bool) -> u
     (current[k] & and) | or
 }
 
-// The eight new values of the record that starts at a place of the block. Device Control and Link Control, 4 and 5, never stay.
+// The eight new values of the record that starts at this byte of the block. Device Control and Link Control, 4 and 5, never stay.
 pub fn new_values(b: &[u8], start: usize, current: &[u32], aer: bool) -> [u32; 8]
     requires { ⌜ (length (now current) ≡ 8) × (71 + start ≤ length (now b)) ⌝ }
     ensures { λ r. ⌜ r ≡ newValues aer (now (b .entry)) (fieldAt (now (b .entry)) start) 0 (now (current .entry)) ⌝ }
@@ -64,13 +92,6 @@ pub fn new_values(b: &[u8], start: usize, current: &[u32], aer: bool) -> [u32; 8
         register(b, start, current, 6, aer),
         register(b, start, current, 7, aer),
     ]
-}
-
-// The number of the record search for type 2, and the new register values.
-#[repr(C)]
-pub struct Values {
-    pub number: u8,
-    pub values: [u32; 8],
 }
 
 // 8, 9, else the new values.

@@ -1,7 +1,7 @@
--- How a call on one row of a lent table ends, once the row's call has returned.
---     Ending           what the row's call hands back, what the function returns, the locals and the statements of its end, the table after them, and the walk of them
---     handed           what the row's call hands back is returned, and the table stays
---     kept             of a `RowDone`: where its number is 0 the bits that its row holds are stored in the table, and the number is returned
+-- How a call on one bridge of a lent table ends, once the bridge's call has returned.
+--     Ending           what the bridge's call hands back, what the function returns, the locals and the statements of its end, the table after them, and the walk of them
+--     handed           what the bridge's call hands back is returned, and the table stays
+--     kept             of a `BridgeDone`: where its number is 0 the bits that its bridge holds are stored in the table, and the number is returned
 -- The walks assume `Given`.
 use mathlib.Core.Path.{refl}
 use Prim.Native.Nat.{ℕ}
@@ -12,13 +12,13 @@ use denote.Struct.Laws as LL
 use Rattle.rules.specs.declared.Table.{Table}
 use Rattle.rules.specs.declared.BridgeNumber.{BridgeNumber}
 use Rattle.rules.proofs.Table as T
-use Rattle.rows.proofs.RowDone as D
-use Rattle.rows.proofs.RowDone.Laws as D′
+use Rattle.one_bridge.proofs.BridgeDone as D
+use Rattle.one_bridge.proofs.BridgeDone.Laws as D′
 use Rattle.walks.proofs.Frame.{Blocks, Cells, Has, Bound, finds, spread, pack}
 use Rattle.walks.proofs.Values.{Value, number, word}
 use Rattle.walks.proofs.Borrowed.{Lent}
 use Rattle.lent.proofs.Ways.{ref-ty, index}
-use Rattle.lent.proofs.RowSteps.{row-done, store-tys, storing, stored, row-stored}
+use Rattle.lent.proofs.BridgeSteps.{bridge-done, store-tys, storing, stored, bridge-stored}
 
 -- the locals that an end touches: the result's, the reference's, i's, those behind i and the last ones
 abbrev pub Around : {M : Type 1} (𝓤 : URA M) (τ : Ty) (mids lasts : List Ty) (b o : ℕ) (n : BridgeNumber) (l t i : ℕ) → Blocks mids → Blocks lasts → List (Item 𝓤) → List (Item 𝓤)
@@ -55,16 +55,16 @@ handed V′ = record { given = V′; result = V′; answer = λ x. x; after = λ
 abbrev kept-code : (i d c : ℕ) → Code
 kept-code i d c = storing i d c (seq (assign (place 0 []) (rvOpd (copy (place d (field 0 ∷ []))))) return)
 
-pub kept-ends : Ends row-done (number w8) (λ x. x .number) (λ h n x. stored h n (x .number) (x .row)) (row-done .ty ∷ []) store-tys (λ d. d) kept-code
+pub kept-ends : Ends bridge-done (number w8) (λ x. x .number) (λ h n x. stored h n (x .number) (x .bridge)) (bridge-done .ty ∷ []) store-tys (λ d. d) kept-code
 kept-ends M 𝓤 H A W C Λ κ q b o γ h n Post E′ l t m i d c ms xs at-i at-d at-c x is Γ go =
     let E : Env 𝓤 H = (number w8 .ty, l) ∷ (ref-ty, t) ∷ E′ in let owed = LL.owed D.the-type D′.the-laws x _ is in
     -- [q′; …; q; …; p′; …; p; …; w; …; the test; …; what came back; …; the result; the reference; i; the borrow]
-    move ! (3 ∷ []) $ step (spread W (row-done .ty ∷ []) ms []) $ land ! (finds W (at-d .0) (stop !)) (init ! 0 refl (row-done .typed 𝓤 H A W x is)) $ move ! (5 ∷ []) $ step (spread W store-tys xs []) $
-    move ! (15 ∷ 16 ∷ 8 ∷ 6 ∷ 4 ∷ 2 ∷ 0 ∷ 12 ∷ 10 ∷ 17 ∷ 18 ∷ 19 ∷ []) $ step (row-stored W C Λ E b o i t m refl at-i (atRet E Post) κ q γ h n d c (ms .0) xs (at-d .0) at-c x (owed .1 .0)) $
+    move ! (3 ∷ []) $ step (spread W (bridge-done .ty ∷ []) ms []) $ land ! (finds W (at-d .0) (stop !)) (init ! 0 refl (bridge-done .typed 𝓤 H A W x is)) $ move ! (5 ∷ []) $ step (spread W store-tys xs []) $
+    move ! (15 ∷ 16 ∷ 8 ∷ 6 ∷ 4 ∷ 2 ∷ 0 ∷ 12 ∷ 10 ∷ 17 ∷ 18 ∷ 19 ∷ []) $ step (bridge-stored W C Λ E b o i t m refl at-i (atRet E Post) κ q γ h n d c (ms .0) xs (at-d .0) at-c x (owed .1 .0)) $
     -- [the reference; i; w; p; p′; q; q′; what came back; the test; the borrow; q′'s end; …; what came back's; the result]
     assigns ! (of-opd ! (load ! (finds W (at-d .0) (fld ! refl (stop !))) (look-in ! 7 (sub ! 0 refl (whole !))))) (from ! (stop !)) (init ! 19 refl (tt, record { fits = owed .0 .1 })) $
     returns ! (look ! 19 refl) $ forget ! 19 refl $ forget ! 7 refl $
-    move ! (6 ∷ 12 ∷ 5 ∷ 13 ∷ 4 ∷ 14 ∷ 3 ∷ 15 ∷ 2 ∷ 16 ∷ 8 ∷ 17 ∷ 7 ∷ 18 ∷ []) $ step (pack W store-tys xs []) $ move ! (1 ∷ 2 ∷ []) $ step (pack W (row-done .ty ∷ []) ms []) $ move ! (7 ∷ 2 ∷ 3 ∷ []) $ go (owed .0)
+    move ! (6 ∷ 12 ∷ 5 ∷ 13 ∷ 4 ∷ 14 ∷ 3 ∷ 15 ∷ 2 ∷ 16 ∷ 8 ∷ 17 ∷ 7 ∷ 18 ∷ []) $ step (pack W store-tys xs []) $ move ! (1 ∷ 2 ∷ []) $ step (pack W (bridge-done .ty ∷ []) ms []) $ move ! (7 ∷ 2 ∷ 3 ∷ []) $ go (owed .0)
 
 abbrev pub kept : Ending
-kept = record { given = row-done; result = number w8; answer = λ x. x .number; after = λ h n x. stored h n (x .number) (x .row); mids = row-done .ty ∷ []; lasts = store-tys; to = λ d. d; code = kept-code; ends = kept-ends }
+kept = record { given = bridge-done; result = number w8; answer = λ x. x .number; after = λ h n x. stored h n (x .number) (x .bridge); mids = bridge-done .ty ∷ []; lasts = store-tys; to = λ d. d; code = kept-code; ends = kept-ends }

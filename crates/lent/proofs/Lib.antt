@@ -1,4 +1,4 @@
 pub mod Ways
-pub mod RowSteps
+pub mod BridgeSteps
 pub mod Endings
-pub mod OnRow
+pub mod OnBridge

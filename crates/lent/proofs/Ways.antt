@@ -1,8 +1,8 @@
 -- The ways into a lent table (`Inside` of crates/walks), and the types of what lies there.
 --     bridge, session, bridge-number, ref-ty       the types
 --     count-in         the count
---     row-look, row-put        row i, to be left as it is, or replaced
---     index            the place that a bridge number has in the array.        size, offset, place-fits      of a row there: its bytes, where it lies, and that this does not wrap
+--     bridge-look, bridge-put        bridge i, to be left as it is, or replaced
+--     index            where a bridge number's bridge stands in the array.        size, offset, bridge-fits      of a bridge there: its bytes, where it lies, and that this does not wrap
 -- The ways assume `Given`, the others nothing.
 use mathlib.Core.Path.{refl}
 use Prim.Native.Nat.{ℕ, _+_, _*_, _%_, _<_}
@@ -42,16 +42,16 @@ bridge-number = struct N.the-type N′.the-laws N′.the-plain
 abbrev pub ref-ty : Ty
 ref-ty = tyRef (named 0) mut (pointee (T.the-row .written))
 
--- the bytes of a row, and where row i lies, from the table's offset o
+-- the bytes of a bridge, and where bridge i lies, from the table's offset o
 abbrev pub size : ℕ
 size = mem B.the-row .size
 
 abbrev pub offset : ℕ → ℕ → ℕ
 offset i o = i * size + (o + 0)
 
-pub place-fits : (i : ℕ) → i < maxRows → Fits w64 (i * size)
+pub bridge-fits : (i : ℕ) → i < maxRows → Fits w64 (i * size)
 unfolding maxRows
-place-fits i l = record { fits = omega arith }
+bridge-fits i l = record { fits = omega arith }
 
 abbrev pub index : BridgeNumber → ℕ
 index n = n .0 % maxRows
@@ -65,12 +65,12 @@ module _ {M : Type 1} {𝓤 : URA M} {H : Heap 𝓤} {A : Atoms 𝓤} (W : Given
   unfolding maxRows
   count-in = record { cut = look-at 𝓤 H A W fullShare T.the-type T′.the-laws 1 (maxRows * size) refl refl (b, o) h (T.struct .as-values h) refl }
 
-  pub row-look : (i : ℕ) → i < maxRows → Inside W fullShare T.the-row B.the-row h h (bridgeAt h i) (bridgeAt h i) b o (offset i o)
+  pub bridge-look : (i : ℕ) → i < maxRows → Inside W fullShare T.the-row B.the-row h h (bridgeAt h i) (bridgeAt h i) b o (offset i o)
   unfolding maxRows
-  row-look i lt = record-look W fullShare T.the-row maxRows 0 b o i lt B.the-type tt h (h .bridges) noBridge (at-mul (o + 0) size i) (look-at 𝓤 H A W fullShare T.the-type T′.the-laws 0 0 refl refl (b, o) h (T.struct .as-values h) refl)
+  bridge-look i lt = record-look W fullShare T.the-row maxRows 0 b o i lt B.the-type tt h (h .bridges) noBridge (at-mul (o + 0) size i) (look-at 𝓤 H A W fullShare T.the-type T′.the-laws 0 0 refl refl (b, o) h (T.struct .as-values h) refl)
 
-  pub row-put : (i : ℕ) → i < maxRows → (y : Bridge) → Inside W fullShare T.the-row B.the-row h (withBridge h i y) (bridgeAt h i) y b o (offset i o)
+  pub bridge-put : (i : ℕ) → i < maxRows → (y : Bridge) → Inside W fullShare T.the-row B.the-row h (withBridge h i y) (bridgeAt h i) y b o (offset i o)
   unfolding maxRows
-  row-put i lt y =
+  bridge-put i lt y =
       record-put W fullShare T.the-row maxRows 0 b o i lt B.the-type tt h (h .bridges) noBridge (at-mul (o + 0) size i) y (withBridge h i y)
       (put-at 𝓤 H A W fullShare T.the-type T′.the-laws 0 0 refl refl (b, o) h (withBridge h i y) (T.struct .as-values h) (set (h .bridges) i y) refl refl)

@@ -1,1 +1,1 @@
-// No function: proofs/ has the walks of calls on one row of a lent table.
+// No function: proofs/ has the walks of calls on one bridge of a lent table.

@@ -1,6 +1,6 @@
--- The search over the rows of a table, turn by turn, which the loops over `seek` cite.
+-- The search over the bridges of a table, turn by turn, which the loops over `seek` cite.
 --     Seeking          the search, gone on with, gives what `locate` gives
---     seek-first, seek-on, seek-end      it holds before the loop and after a turn, and where no row is next the search has the answer
+--     seek-first, seek-on, seek-end      it holds before the loop and after a turn, and where no bridge is next the search has the answer
 --     seek-near        a turn comes nearer to the end
 use Prim.Native.Nat.{ℕ, suc, _-_, _≤_, _<_, zero-le}
 use mathlib.Core.Path.{_≡_, refl, sym, ap, _∙_}
@@ -22,8 +22,8 @@ use Rattle.rules.specs.declared.SessionNumber.{SessionNumber}
 use Rattle.rules.specs.declared.Table.{Table}
 use Rattle.rules.proofs.Soundness.{in-table, table-long}
 use Rattle.rules.proofs.Places.{locate-is}
-use Rattle.locate.specs.Turns.{atFirst, turnBy, afterRow}
-use Rattle.locate.specs.declared.Located.{Located}
+use Rattle.locate.specs.Turns.{atFirst, turnBy, afterBridge}
+use Rattle.rules.specs.declared.Located.{Located}
 use Rattle.locate.specs.declared.Search.{Search}
 
 -- the search from position i: past an element that fails, at one that passes, past the end
@@ -37,7 +37,7 @@ module _ (p : Bridge → Bool) (l : List Bridge) (i : ℕ) where
   find-end : length l ≤ i → find p (drop i l) i ≡ none
   find-end h = rw (drop-of-length-le l {i = i} h)
 
--- what the search gives: the bridge that the rows ahead have, else what was found so far
+-- what the search gives: the bridge that the bridges ahead have, else what was found so far
 abbrev pub gives : Table → ℕ → Located → Option ℕ → Outcome
 gives t a f none = outcome (f .number) (located (f .place)) []
 gives t a f (some i) = outcome 0 (located (placeOf i (bridgeAt t i) a)) []
@@ -64,7 +64,7 @@ module _ (t : Table) (s : SessionNumber) (a : ℕ) where
     abbrev turn : Bool → Search
     turn q = turnBy q p (t .count) (bridgeAt t i) a
 
-    pub seek-on : i < t .count → Seeking t s a (afterRow p (t .count) (bridgeAt t i) s a)
+    pub seek-on : i < t .count → Seeking t s a (afterBridge p (t .count) (bridgeAt t i) s a)
     seek-on l = go (test (bridgeAt t i)) refl
       where
         go : (q : Bool) → test (bridgeAt t i) ≡ q → Seeking t s a (turn q)
@@ -80,7 +80,7 @@ module _ (t : Table) (s : SessionNumber) (a : ℕ) where
           rest = rw add-one (sym (ap (gives t a (p .found)) (find-past test (bridgesOf t) i (omega (arith, table-long t h)) (ap test (in-table t i l) ∙ e))) ∙ w .rest);
         }
 
-    pub seek-near : i < t .count → t .count - afterRow p (t .count) (bridgeAt t i) s a .next < t .count - i
+    pub seek-near : i < t .count → t .count - afterBridge p (t .count) (bridgeAt t i) s a .next < t .count - i
     seek-near l = go (test (bridgeAt t i))
       where
         go : (q : Bool) → t .count - turn q .next < t .count - i

@@ -1,27 +1,21 @@
-// Reading an address back, row by row: a loop of `seek` over the rows of a table finds the place, whether the table is a value or lent.
+// Reading an address back, bridge by bridge: a loop of `seek` over the bridges of a table finds the place, whether the table is a value or lent.
 use rules::Bridge;
 use rules::BridgeNumber;
+use rules::Located;
 use rules::Place;
 use rules::SessionNumber;
 ghost use mathlib.Core.Path.{_≡_};
 ghost use Prim.Native.Nat.{_≤_, _<_};
 ghost use Rattle.rules.specs.Limits.{maxRows};
-ghost use Rattle.locate.specs.Turns.{atFirst, afterRow};
+ghost use Rattle.locate.specs.Turns.{atFirst, afterBridge};
 
-// A number, and the place of an address.
-#[repr(C)]
-pub struct Located {
-    pub number: u8,
-    pub place: Place,
-}
-
-// The row to look at next, and what was found so far.
+// The bridge to look at next, and what was found so far.
 pub struct Search {
     pub next: usize,
     pub found: Located,
 }
 
-// Before the first row: refusal 4 stands until a bridge is found.
+// Before the first bridge: refusal 4 stands until a bridge is found.
 pub fn begin() -> Search
     ensures { λ r. ⌜ r ≡ atFirst ⌝ }
 {
@@ -37,17 +31,17 @@ pub fn begin() -> Search
     Search { next: 0, found }
 }
 
-// One row looked at: the search ends at a bridge of the session whose window has the address.
-pub fn seek(p: Search, bridges: usize, row: Bridge, s: SessionNumber, address: u64) -> Search
+// One bridge looked at: the search ends at a bridge of the session whose window has the address.
+pub fn seek(p: Search, bridges: usize, bridge: Bridge, s: SessionNumber, address: u64) -> Search
     requires { ⌜ (p .next < bridges) × (bridges ≤ maxRows) ⌝ }
-    ensures { λ r. ⌜ r ≡ afterRow p bridges row s address ⌝ }
+    ensures { λ r. ⌜ r ≡ afterBridge p bridges bridge s address ⌝ }
 {
     let i = p.next;
-    if rows::own_window(row, s, address) {
+    if one_bridge::own_window(bridge, s, address) {
         let n = BridgeNumber(i as u8);
         let found = Located {
             number: 0,
-            place: ecam::place_of(n, row, address),
+            place: ecam::place_of(n, bridge, address),
         };
         return Search {
             next: bridges,

@@ -1,4 +1,4 @@
--- The entries from a place to the end, one by one, and the window of a sound entry.
+-- The entries from a byte to the end, one by one, and the window of a sound entry.
 -- Assumes nothing.
 use Prim.Native.Nat.{ℕ, zero, suc, _+_, _-_, _*_, _/_, _^_, _≤_, _<_}
 use mathlib.Core.Path.{_≡_, refl, sym, ap, _∙_}
@@ -18,7 +18,7 @@ pub rest-all : (m : List ℕ) → rest m 44 ≡ entries m
 unfolding rest entries
 rest-all m = refl
 
--- a whole entry is left: it, and those from the next place
+-- a whole entry is left: it, and those behind it
 rest-step : (m : List ℕ) (i : ℕ) → 16 + i ≤ length m → rest m i ≡ entryAt m i ∷ rest m (16 + i)
 unfolding rest
 rest-step m i h = ap (λ (n : ℕ). entriesFrom n m i) count

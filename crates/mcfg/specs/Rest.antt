@@ -1,4 +1,4 @@
--- The conditions of `mcfgSound` as the code tests them: the header first, then the entries from a place to the end.
+-- The conditions of `mcfgSound` as the code tests them: the header first, then the entries from a byte to the end.
 use Prim.Native.Nat.{ℕ, _-_, _/_, _%_}
 use mathlib.Core.Bool.{Bool, _&&_}
 use mathlib.Core.List.{List}

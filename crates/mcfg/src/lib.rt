@@ -14,8 +14,8 @@ ghost use Rattle.mcfg.specs.Rest.{headerSound, rest, apart};
 
 const SIGNATURE: [u8; 4] = *b"MCFG";
 
-// The last of the 2^44 places for a bus below 2^64.
-const LAST_PLACE: u64 = 0xFFF_FFFF_FFFF;
+// The last of the 2^44 multiples of 2^20 below 2^64, where a bus may start.
+const LAST_START: u64 = 0xFFF_FFFF_FFFF;
 
 // The header, and the number of entries; the sum is taken last, of a table whose length is right.
 fn header_sound(m: &[u8]) -> bool
@@ -42,7 +42,7 @@ fn header_sound(m: &[u8]) -> bool
     words::byte_sum(m) == 0
 }
 
-// The entry at a place.
+// The entry at a byte.
 fn entry_at(m: &[u8], at: usize) -> Entry
     requires { ⌜ 16 + at ≤ length (now m) ⌝ }
     ensures { λ r. ⌜ r ≡ entryAt (now (m .entry)) at ⌝ }
@@ -61,7 +61,7 @@ fn entry_sound(e: Entry) -> bool
 {
     (e.start_bus <= e.end_bus)
         & (e.base % BUS_BYTES == 0)
-        & (e.base <= (LAST_PLACE - e.end_bus as u64) * BUS_BYTES)
+        & (e.base <= (LAST_START - e.end_bus as u64) * BUS_BYTES)
 }
 
 // Entries of one segment share no bus.
@@ -125,7 +125,7 @@ fn entries_sound(m: &[u8]) -> bool
     true
 }
 
-// An entry is apart from each from a place to the end.
+// An entry is apart from each from a byte to the end.
 fn apart_from_rest(m: &[u8], e: Entry, from: usize) -> bool
     requires { ⌜ from ≤ length (now m) ⌝ }
     requires { ⌜ entrySound e ≡ true ⌝ }

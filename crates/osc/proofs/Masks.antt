@@ -7,7 +7,7 @@ use native.Mathlib.Decide.{decLt}
 use borrow.Author.Tests.{eq-eqb, ne-eqb}
 use lib.Bits.{bitAnd, bitOr, and-comm}
 use lib.ListN.{length, getD}
-use Rattle.rules.specs.Numbers.{bit, within, number}
+use Rattle.rules.specs.Numbers.{bit, within}
 use Rattle.rules.specs.Osc.{controlNeeds, knownControl, available, grantedBit, granted}
 use Rattle.rules.specs.declared.Bridge.{Bridge}
 use Rattle.rules.proofs.Tests.{and-off}

@@ -12,7 +12,7 @@ use Rattle.rules.specs.Lists.{every, pairwise, first, isNone}
 use Rattle.rules.specs.Refusals.{_if_, firstOf}
 use Rattle.rules.specs.Records.{prepend, foundBy}
 use Rattle.rules.specs.declared.Field.{Field}
-use Rattle.rules.specs.declared.Found.{Found}
+use Rattle.rules.specs.declared.FoundAt.{FoundAt}
 use Rattle.rules.proofs.Tests.{and-true, and-off}
 use Rattle.records.specs.Fields.{judged, noneSeen, has, marked}
 use Rattle.records.specs.Fields.{refused, choice}
@@ -63,7 +63,7 @@ none-has (suc (suc t)) = refl
 -- ---- the pass
 
 -- what a judged field leads to: a refusal, the pass with the record, or the pass without it
-abbrev onward : Judged → (had : Bool) → (with-it without : Found) → Found
+abbrev onward : Judged → (had : Bool) → (with-it without : FoundAt) → FoundAt
 onward Bad had with-it without = refused 8
 onward Skip had with-it without = without
 onward Record true with-it without = refused 8
@@ -72,13 +72,13 @@ onward Record false with-it without = with-it
 -- over any two tests: a field is sound, a field is a record
 module _ (sound rec : Field → Bool) (type : ℕ) where
   -- what the pass over these fields gives
-  abbrev pass : Seen → Found → List Field → Found
+  abbrev pass : Seen → FoundAt → List Field → FoundAt
   pass s found [] = found
   pass s found (f ∷ r) =
       onward (judged (sound f) (rec f)) (has s (f .tag)) (pass (marked s (f .tag)) (choice type f found) r) (pass s found r)
 
   -- a walk that came to no end is refused
-  abbrev pub passAll : Seen → Found → Option (List Field) → Found
+  abbrev pub passAll : Seen → FoundAt → Option (List Field) → FoundAt
   passAll s found none = refused 8
   passAll s found (some r) = pass s found r
 
@@ -101,13 +101,13 @@ module _ (rec : Field → Bool) where
   all-unseen (f ∷ r) = rw (none-has (f .tag), and-off (rec f)) (all-unseen r)
 
 -- the record found among the fields left, else what was found before
-abbrev orElse : Found → Option Field → Found
+abbrev orElse : FoundAt → Option Field → FoundAt
 orElse found none = found
 orElse found (some f) = foundBy 0 (some f)
 
 -- ---- the pass from a field on
 
-module _ (sound rec : Field → Bool) (type : ℕ) (s : Seen) (found : Found) (f : Field) where
+module _ (sound rec : Field → Bool) (type : ℕ) (s : Seen) (found : FoundAt) (f : Field) where
   pub pass-skip : (o : Option (List Field)) → Skip ≡ judged (sound f) (rec f)
       → passAll sound rec type s found (prepend f o) ≡ passAll sound rec type s found o
   pass-skip none e = refl
@@ -170,12 +170,12 @@ module _ (sound rec : Field → Bool) (type : ℕ) (small : (f : Field) → rec 
           cc
 
   -- what the rules say of these fields, after what was seen and found before them
-  abbrev whole : Seen → Found → List Field → Found
+  abbrev whole : Seen → FoundAt → List Field → FoundAt
   whole s found r =
       cond (every sound r && pairwise (apart rec) r && every (unseen rec s) r)
       (orElse found (first (asked rec type) r)) (refused 8)
 
-  pass-whole : (r : List Field) (s : Seen) (found : Found) → pass sound rec type s found r ≡ whole s found r
+  pass-whole : (r : List Field) (s : Seen) (found : FoundAt) → pass sound rec type s found r ≡ whole s found r
   pass-whole [] s found = refl
   pass-whole (f ∷ r) s found =
       go (sound f) (rec f) (has s (f .tag)) (eqb (f .tag) type) refl refl (pass-whole r s found)
@@ -209,7 +209,7 @@ module _ (sound rec : Field → Bool) (type : ℕ) (small : (f : Field) → rec 
           ∙ ap (λ (t : Bool). cond t (orElse (choice type f found) F) (refused 8)) (regroup E N P U)
           ∙ last k q
         where
-          part : Found
+          part : FoundAt
           part = foundBy 0 (some f)
 
           -- the record found is the only one

@@ -22,7 +22,7 @@ read-whole l i n e h =
     let k : 3 + fieldAt l i .size + i ≤ length l = omega arith in
     rw (le-leb (3 + fieldAt l i .size + i) (length l) k, e)
 
--- a field read whole is the field at its place, and ends inside the block
+-- a field read whole is the field where it starts, and ends inside the block
 pub whole-is : (l : List ℕ) (i : ℕ) (f : Field) → Whole f ≡ fieldRead l i → f ≡ fieldAt l i
 whole-is l i f e = go (leb (3 + fieldAt l i .size + i) (length l)) e
   where

@@ -1,4 +1,4 @@
--- The walk of a block, field by field: what is left of it at a place still gives the answer of the record search.
+-- The walk of a block, field by field: what is left of it at a byte still gives the answer of the record search.
 -- Assumes nothing.
 use Prim.Native.Nat.{ℕ, zero, suc, _+_, _≤_, _<_}
 use mathlib.Core.Path.{_≡_, refl, sym, ap, _∙_, subst}
@@ -14,7 +14,7 @@ use Rattle.rules.specs.Lists.{isNone}
 use Rattle.rules.specs.Refusals.{_if_, firstOf}
 use Rattle.rules.specs.Records.{fieldAt, prepend, fieldsFrom, fieldsOf, value, isRecord, fieldSound, soundFields, blockSound, recordAmong, recordIn, foundBy, findRecord}
 use Rattle.rules.specs.declared.Field.{Field}
-use Rattle.rules.specs.declared.Found.{Found}
+use Rattle.rules.specs.declared.FoundAt.{FoundAt}
 use Rattle.rules.proofs.Tests.{and-l}
 use Rattle.records.specs.Fields.{fieldRead, judged, noneSeen, has, marked}
 use Rattle.records.specs.Fields.{refused, choice}
@@ -24,7 +24,7 @@ use Rattle.records.specs.declared.Seen.{Seen}
 use Rattle.records.proofs.Reading.{whole-is, whole-fits, field-fits, end-past}
 use Rattle.records.proofs.Passes.{passAll, pass-skip, pass-record, pass-twice, pass-bad, pass-answer}
 
--- ---- the fields from a place on
+-- ---- the fields from a byte on
 
 -- at the end there is none, whatever the fuel
 no-more : (n : ℕ) (l : List ℕ) (i : ℕ) → i ≡ length l → fieldsFrom n l i ≡ some []
@@ -54,11 +54,11 @@ after (suc n) l i f h k e =
 -- ---- what is left of the walk
 
 -- what the pass over these fields of the block gives
-abbrev pass : List ℕ → ℕ → Seen → Found → Option (List Field) → Found
+abbrev pass : List ℕ → ℕ → Seen → FoundAt → Option (List Field) → FoundAt
 pass l type = passAll (fieldSound l) (isRecord l) type
 
--- at place i, with these types seen and this found, at most `fuel` fields are left, and the pass over them gives the answer
-pub record Left (l : List ℕ) (type i : ℕ) (s : Seen) (found : Found) : Type 0 where
+-- at byte i, with these types seen and this found, at most `fuel` fields are left, and the pass over them gives the answer
+pub record Left (l : List ℕ) (type i : ℕ) (s : Seen) (found : FoundAt) : Type 0 where
   pub fuel : ℕ
   pub enough : length l ≤ i + fuel
   pub inside : i ≤ length l
@@ -87,7 +87,7 @@ at-start l type e =
       gives = rw (le-leb (length l) maxBlock (ltb-false maxBlock (length l) e)) (answer l type (fieldsFrom (length l) l 0));
     }
 
-module _ (l : List ℕ) (type i : ℕ) (s : Seen) (found : Found) (w : Left l type i s found) where
+module _ (l : List ℕ) (type i : ℕ) (s : Seen) (found : FoundAt) (w : Left l type i s found) where
   -- after the last field what was found is the answer
   pub at-end : length l ≤ i → found ≡ findRecord [] l type
   at-end h = ap (pass l type s found) (sym (no-more (w .fuel) l i (omega arith))) ∙ w .gives

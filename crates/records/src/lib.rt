@@ -1,6 +1,6 @@
 // Record blocks: their fields, and the search of one block for a record.
 use rules::Field;
-use rules::Found;
+use rules::FoundAt;
 use rules::constants::MAX_BLOCK;
 ghost use mathlib.Core.Path.{_≡_};
 ghost use mathlib.Core.Bool.{_&&_};
@@ -18,7 +18,7 @@ pub enum FieldRead {
     End,
 }
 
-// The field at a place, all of it within the block.
+// The field at a byte, all of it within the block.
 pub fn read_field(b: &[u8], at: usize) -> FieldRead
     requires { ⌜ at ≤ length (now b) ⌝ }
     ensures { λ r. ⌜ r ≡ fieldRead (now (b .entry)) at ⌝ }
@@ -168,10 +168,10 @@ fn mark(seen: Seen, tag: u8) -> Seen
 }
 
 // What is handed back beside a refusal number.
-fn refusal(number: u8) -> Found
+fn refusal(number: u8) -> FoundAt
     ensures { λ r. ⌜ r ≡ refused number ⌝ }
 {
-    Found {
+    FoundAt {
         number,
         start: 0,
         size: 0,
@@ -179,12 +179,12 @@ fn refusal(number: u8) -> Found
 }
 
 // A record of the asked type is what the search gives; any other leaves what it has.
-fn chosen(found: Found, f: Field, record_type: u32) -> Found
+fn chosen(found: FoundAt, f: Field, record_type: u32) -> FoundAt
     requires { ⌜ 3 + f .size < 2 ^ 64 ⌝ }
     ensures { λ r. ⌜ r ≡ choice record_type f found ⌝ }
 {
     if (f.tag as u32) == record_type {
-        return Found {
+        return FoundAt {
             number: 0,
             start: f.start,
             size: 3 + f.size,
@@ -200,8 +200,8 @@ fn too_long(b: &[u8]) -> bool
     MAX_BLOCK < b.len()
 }
 
-// One pass over a block: sound or not, and the place of the asked record.
-pub fn search_block(b: &[u8], record_type: u32) -> Found
+// One pass over a block: sound or not, and where the asked record lies.
+pub fn search_block(b: &[u8], record_type: u32) -> FoundAt
     ensures { λ r. ⌜ r ≡ findRecord [] (now (b .entry)) record_type ⌝ }
 {
     if too_long(b) {

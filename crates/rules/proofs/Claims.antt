@@ -17,7 +17,7 @@ use Rattle.rules.specs.Claims.{RefusalsExactly, RefusedChangesNothing, T
 use Rattle.rules.specs.declared.Table.{Table}
 use Rattle.rules.proofs.Tests.{and-off}
 use Rattle.rules.proofs.Refusals.{exactly}
-use Rattle.rules.proofs.Local.{fixed-step, fixed-after, same-rows, same-bridge}
+use Rattle.rules.proofs.Local.{fixed-step, fixed-after, same-bridges, same-bridge}
 use Rattle.rules.proofs.Separation.{same-outcomes, same-holding}
 use Rattle.rules.proofs.Soundness.{sound-step, sound-after}
 use Rattle.rules.proofs.Reach.{number-by, no-shared-byte}
@@ -98,7 +98,7 @@ pub tables-sound : TablesSound
 tables-sound = (
   start-sound,
   sound-step,
-  λ t c. (ap (λ (x : Table). x .count) (fixed-step t c), same-rows (step t c .table) t (fixed-step t c)),
+  λ t c. (ap (λ (x : Table). x .count) (fixed-step t c), same-bridges (step t c .table) t (fixed-step t c)),
 )
 
 pub history-holds : History

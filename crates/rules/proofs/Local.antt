@@ -53,8 +53,8 @@ pub bridge-fixed : (t : Table) (i : ℕ) → bridgeAt (fixed t) i ≡ cleared (b
 bridge-fixed t i = List·getD-map cleared (t .bridges) i noBridge
 
 -- tables that differ in nothing fixed have the same rows but for what they hold
-pub same-rows : (u t : Table) → fixed u ≡ fixed t → (i : ℕ) → cleared (bridgeAt u i) ≡ cleared (bridgeAt t i)
-same-rows u t e i = sym (bridge-fixed u i) ∙ ap (λ (x : Table). bridgeAt x i) e ∙ bridge-fixed t i
+pub same-bridges : (u t : Table) → fixed u ≡ fixed t → (i : ℕ) → cleared (bridgeAt u i) ≡ cleared (bridgeAt t i)
+same-bridges u t e i = sym (bridge-fixed u i) ∙ ap (λ (x : Table). bridgeAt x i) e ∙ bridge-fixed t i
 
 -- ---- the bridge of the table that a call is on; none if it names none, or one that the table has not
 
@@ -95,17 +95,17 @@ owner-first bridges s n b o e = go (leb bridges (n .0)) refl o
     go false h (address bus device function offset width) = rw (h, e)
     go false h (registerValues slot block current) = rw (h, e)
 
--- ---- the row after a call
+-- ---- the bridge after a call
 
 pub cleared-by : (k : ℕ) (b : Bridge) (o : Operation) → cleared (bridgeBy k b o) ≡ cleared b
 cleared-by zero b o = refl
 cleared-by (suc k) b o = refl
 
--- a row stored back as it was
+-- a bridge stored back as it was
 pub same-bridge : (t : Table) (n : ℕ) → withBridge t n (bridgeAt t n) ≡ t
 same-bridge t n = ap (withBridges t) (set-getD (t .bridges) n noBridge)
 
--- a number that is 1 or 2 changes no table and hides the row
+-- a number that is 1 or 2 changes no table and hides the bridge
 refused-by : (q : Bool) (t : Table) (n : ℕ) (o : Operation) → withBridge t n (bridgeBy (cond q 1 2) (bridgeAt t n) o) ≡ t
 refused-by true t n o = same-bridge t n
 refused-by false t n o = same-bridge t n

@@ -23,7 +23,7 @@ use Rattle.rules.specs.declared.SessionNumber.{SessionNumber}
 use Rattle.rules.specs.declared.Table.{Table}
 use Rattle.rules.proofs.Tests.{and-off}
 use Rattle.rules.proofs.Granting.{granted-lt, granted-support, granted-again}
-use Rattle.rules.proofs.Local.{fixed-after, same-rows}
+use Rattle.rules.proofs.Local.{fixed-after, same-bridges}
 use Rattle.rules.proofs.Soundness.{same-length}
 use Rattle.rules.proofs.History.{history-from, history-next, in-array, undisturbed}
 use Rattle.rules.specs.declared.Holding.{Holding}
@@ -98,10 +98,10 @@ module _ (t : Table) (s : SessionNumber) (n : BridgeNumber) (h : n .0 < t .count
   in-count = subst (λ (x : Table). n .0 < x .count) (sym f) h
 
   owner : owns s (bridgeAt u (n .0)) ≡ true
-  owner = ap (owns s) (same-rows u t f (n .0)) ∙ o
+  owner = ap (owns s) (same-bridges u t f (n .0)) ∙ o
 
   same-bridge : bridgeAt u (n .0) ≡ bridgeAt t (n .0)
-  same-bridge = ap₂ {B = Holding} (λ (x : Bridge) y. withHolding x y) (same-rows u t f (n .0)) k
+  same-bridge = ap₂ {B = Holding} (λ (x : Bridge) y. withHolding x y) (same-bridges u t f (n .0)) k
 
   -- the support DWORD does not count, so it may be another one
   whole : granted (bridgeAt u (n .0)) (support (c .caps)) (control (c .caps)) ≡ control (c .caps)

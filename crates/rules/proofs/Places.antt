@@ -25,7 +25,7 @@ use Rattle.rules.specs.declared.SessionNumber.{SessionNumber}
 use Rattle.rules.specs.declared.Table.{Table}
 use Rattle.rules.proofs.Tests.{and-true, and-is, fails}
 use Rattle.rules.proofs.Indexed.{take-map}
-use Rattle.rules.proofs.Local.{bridge-fixed, same-rows}
+use Rattle.rules.proofs.Local.{bridge-fixed, same-bridges}
 use Rattle.rules.proofs.Soundness.{in-table, table-long}
 use Rattle.rules.proofs.Reach.{Fits, reached, Accepted, address-accepted, one-owner}
 use Rattle.rules.specs.declared.Place.{Place}
@@ -188,7 +188,7 @@ back-address t st s p a e = go (windowOf t s a) refl (sym (locate-is t s a) ∙ 
 module _ (u t : Table) (e : fixed u ≡ fixed t) where
   accepted-like : (s : SessionNumber) (p : Place) (w a : ℕ) → AcceptedAt u s p w a → AcceptedAt t s p w a
   accepted-like s p w a h =
-      let f = same-rows u t e (p .bridge .0) in
+      let f = same-bridges u t e (p .bridge .0) in
       record {
         in-count = subst (λ (x : Table). p .bridge .0 < x .count) e (h .in-count);
         owned = ap (owns s) (sym f) ∙ h .owned;

@@ -21,7 +21,7 @@ use Rattle.rules.specs.declared.SessionNumber.{SessionNumber}
 use Rattle.rules.specs.declared.Table.{Table}
 use Rattle.rules.proofs.Tests.{or-false, and-is}
 use Rattle.rules.proofs.Refusals.{clear}
-use Rattle.rules.proofs.Local.{fixed-step, same-rows}
+use Rattle.rules.proofs.Local.{fixed-step, same-bridges}
 use Rattle.rules.proofs.Separation.{same-session}
 
 pub number-by : (k : ℕ) (b : Bridge) (o : Operation) → outcomeBy k b o .number ≡ k
@@ -133,7 +133,7 @@ given-within {s} {a} {w} {t} (now {c = c} o e x y) = call-within s t c w a o e x
 given-within {s} {a} {w} {t} (later {c = c} g) =
     let h = given-within g in
     let u = step t c .table in
-    let f = same-rows u t (fixed-step t c) (h .bridge) in
+    let f = same-bridges u t (fixed-step t c) (h .bridge) in
     record {
       bridge = h .bridge;
       in-count = subst (λ (x : Table). h .bridge < x .count) (fixed-step t c) (h .in-count);

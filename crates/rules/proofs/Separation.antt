@@ -12,7 +12,7 @@ use Rattle.rules.specs.Calls.{Call, sessionOf, Outcome, step, tableAfter
 use Rattle.rules.specs.declared.Bridge.{Bridge}
 use Rattle.rules.specs.declared.SessionNumber.{SessionNumber}
 use Rattle.rules.specs.declared.Table.{Table}
-use Rattle.rules.proofs.Local.{view, onBridge, on-view, bridge-shown, cleared-view, same-rows, none-table, none-outcome, shown-outcome, shown-table, hidden-table, other-table, other-outcome, fixed-step}
+use Rattle.rules.proofs.Local.{view, onBridge, on-view, bridge-shown, cleared-view, same-bridges, none-table, none-outcome, shown-outcome, shown-table, hidden-table, other-table, other-outcome, fixed-step}
 
 pub same-session : (r s : SessionNumber) → eqb (r .0) (s .0) ≡ true → r ≡ s
 same-session r s e = ap (λ (k : ℕ). numbered k) (eqb-true (r .0) (s .0) e)
@@ -30,7 +30,7 @@ module _ (s : SessionNumber) (p : ℕ → Bool) where
   Own u = (i : ℕ) → p i ≡ owns s (bridgeAt u i)
 
   own-step : (u : Table) (c : Call) → Own u → Own (step u c .table)
-  own-step u c m i = m i ∙ sym (ap (owns s) (same-rows (step u c .table) u (fixed-step u c) i))
+  own-step u c m i = m i ∙ sym (ap (owns s) (same-bridges (step u c .table) u (fixed-step u c) i))
 
   module _ (u : Table) (c : Call) (m : Own u) where
     not-own : (n : ℕ) → sessionOf c ≡ s → p n ≡ false → owns (sessionOf c) (bridgeAt u n) ≡ false

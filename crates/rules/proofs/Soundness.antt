@@ -13,7 +13,7 @@ use Rattle.rules.specs.Start.{Sound}
 use Rattle.rules.specs.Calls.{Call, step, tableAfter}
 use Rattle.rules.specs.declared.Bridge.{Bridge}
 use Rattle.rules.specs.declared.Table.{Table}
-use Rattle.rules.proofs.Local.{fixed-step, fixed-after, same-rows}
+use Rattle.rules.proofs.Local.{fixed-step, fixed-after, same-bridges}
 
 module _ (u t : Table) (e : fixed u ≡ fixed t) where
   same-count : u .count ≡ t .count
@@ -27,8 +27,8 @@ module _ (u t : Table) (e : fixed u ≡ fixed t) where
     full-length = same-length ∙ h .full-length;
     few = rw same-count (h .few);
     windows-apart = λ i j p q ne a v w. h .windows-apart i j (rw same-count at p) (rw same-count at q) ne a
-        (ap (inWindow a) (sym (same-rows u t e i)) ∙ v) (ap (inWindow a) (sym (same-rows u t e j)) ∙ w);
-    window-ends = λ i p. subst (λ (b : Bridge). busEnd (b .base) (b .«last_bus») ≤ 2 ^ 64) (sym (same-rows u t e i)) (h .window-ends i (rw same-count at p));
+        (ap (inWindow a) (sym (same-bridges u t e i)) ∙ v) (ap (inWindow a) (sym (same-bridges u t e j)) ∙ w);
+    window-ends = λ i p. subst (λ (b : Bridge). busEnd (b .base) (b .«last_bus») ≤ 2 ^ 64) (sym (same-bridges u t e i)) (h .window-ends i (rw same-count at p));
   }
 
 pub sound-step : (t : Table) (c : Call) → Sound t → Sound (step t c .table)

@@ -13,7 +13,7 @@ use Rattle.rules.specs.declared.Bridge.{Bridge}
 use Rattle.rules.specs.declared.BridgeNumber.{BridgeNumber}
 use Rattle.rules.specs.declared.BridgeRow.{BridgeRow}
 use Rattle.rules.specs.declared.SessionNumber.{SessionNumber}
-use Rattle.rules.specs.declared.Found.{Found}
+use Rattle.rules.specs.declared.FoundAt.{FoundAt}
 
 -- ---- starts
 
@@ -193,7 +193,7 @@ types01 =
     0 ∷ 0x14 ∷ 0 ∷ 1 ∷ 0 ∷ 0 ∷ 0 ∷ 8 ∷ 0 ∷ 0 ∷ 0 ∷ 0x40 ∷ 0 ∷ 0 ∷ 0 ∷ 1 ∷ 0 ∷ 0 ∷ 0 ∷ 0 ∷ 0 ∷ 0 ∷ 0
     ∷ 1 ∷ 0x10 ∷ 0 ∷ 1 ∷ 0 ∷ 0 ∷ 0 ∷ 3 ∷ 0 ∷ 0 ∷ 0 ∷ 4 ∷ 0 ∷ 0 ∷ 0 ∷ 7 ∷ 0 ∷ 0 ∷ 0 ∷ []
 
-abbrev pub found : ℕ → ℕ → ℕ → Found
+abbrev pub found : ℕ → ℕ → ℕ → FoundAt
 found number start size = record { number = number; start = start; size = size }
 
 abbrev pub searches : List Line

@@ -51,7 +51,7 @@ pub record Outcome : Type 0 where
 abbrev pub outcome : ℕ → Result → List (List ℕ) → Outcome
 outcome k r l = record { number = k; result = r; left = l }
 
--- ---- an operation by session s on bridge n, whose row is b, of a table with so many bridges
+-- ---- an operation by session s on bridge n, which is b, of a table with so many bridges
 
 -- 1: "the bridge number is not in the table"
 abbrev pub absent : (bridges : ℕ) → BridgeNumber → Bool
@@ -126,17 +126,17 @@ abbrev pub outcomeBy : ℕ → Bridge → Operation → Outcome
 outcomeBy zero b o = accepted b o
 outcomeBy (suc k) b o = outcome (suc k) (zeros o) (lent o)
 
--- the row by the number
+-- the bridge by the number
 abbrev pub bridgeBy : ℕ → Bridge → Operation → Bridge
 bridgeBy zero b o = withHolding b (after b o)
 bridgeBy (suc k) b o = b
 
--- the outcome of the call, and the row after it
+-- the outcome of the call, and the bridge after it
 abbrev pub outcomeAt : (bridges : ℕ) → SessionNumber → BridgeNumber → Bridge → Operation → Outcome
 outcomeAt bridges s n b o = outcomeBy (numberAt bridges s n b o) b o
 
-abbrev pub rowAfter : (bridges : ℕ) → SessionNumber → BridgeNumber → Bridge → Operation → Bridge
-rowAfter bridges s n b o = bridgeBy (numberAt bridges s n b o) b o
+abbrev pub bridgeAfter : (bridges : ℕ) → SessionNumber → BridgeNumber → Bridge → Operation → Bridge
+bridgeAfter bridges s n b o = bridgeBy (numberAt bridges s n b o) b o
 
 -- ---- locate
 
@@ -168,11 +168,11 @@ pub record Step : Type 0 where
   pub outcome : Outcome
   pub table : Table
 
--- a call on a bridge stores back that bridge's row; locate reads what no call changes
+-- a call on a bridge stores that bridge back; locate reads what no call changes
 unfoldable pub step : Table → Call → Step
 step t (on s n o) =
     let b = bridgeAt t (n .0) in
-    record { outcome = outcomeAt (t .count) s n b o; table = withBridge t (n .0) (rowAfter (t .count) s n b o) }
+    record { outcome = outcomeAt (t .count) s n b o; table = withBridge t (n .0) (bridgeAfter (t .count) s n b o) }
 step t (locate s a) = record { outcome = locateIn (fixed t) s a; table = t }
 
 -- the refusals listed for a call, in its order

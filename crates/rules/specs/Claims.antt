@@ -22,7 +22,7 @@ use Rattle.rules.specs.declared.Bridge.{Bridge}
 use Rattle.rules.specs.declared.BridgeNumber.{BridgeNumber}
 use Rattle.rules.specs.declared.SessionNumber.{SessionNumber}
 use Rattle.rules.specs.declared.Table.{Table}
-use Rattle.rules.specs.declared.Found.{Found}
+use Rattle.rules.specs.declared.FoundAt.{FoundAt}
 use Rattle.rules.specs.declared.Place.{Place}
 use Rattle.rules.specs.declared.Holding.{Holding}
 
@@ -60,13 +60,13 @@ BuffersKeepLength = (t : Table) (c : Call) → map length (step t c .outcome .le
 abbrev pub RecordPart : Type 0
 RecordPart = (slot block : List ℕ) (type : ℕ)
     → let l : List ℕ = deciding slot block in
-    let f : Found = findRecord slot block type in
+    let f : FoundAt = findRecord slot block type in
     f .number ≡ 0
     → (f .start + f .size ≤ length l) × (byte l (f .start) ≡ type) × (f .size ≡ 3 + word l (1 + f .start)) × (dword l (3 + f .start) ≡ 1)
 
 -- ---- what start leaves and every call keeps
 
--- a call changes no owner, segment, bus, base or permitted bit: the row is the same but for what it holds
+-- a call changes no owner, segment, bus, base or permitted bit: the bridge is the same but for what it holds
 abbrev pub TablesSound : Type 0
 TablesSound =
     ((x : StartInput) → Sound (startTable x))

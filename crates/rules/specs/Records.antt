@@ -11,7 +11,7 @@ use Rattle.rules.specs.Lists.{every, pairwise, first, isNone}
 use Rattle.rules.specs.Numbers.{byte, word, dword}
 use Rattle.rules.specs.Refusals.{Refusal, _if_, firstOf}
 use Rattle.rules.specs.declared.Field.{Field}
-use Rattle.rules.specs.declared.Found.{Found}
+use Rattle.rules.specs.declared.FoundAt.{FoundAt}
 
 -- the field at byte i: "tag (record type, 1 byte), length (2 bytes, little-endian)"
 abbrev pub fieldAt : List ℕ → ℕ → Field
@@ -116,17 +116,17 @@ recordRefusals slot block type =
     ∷ []
 
 -- by the number: 0 hands back the part, any other the empty part
-abbrev pub foundBy : ℕ → Option Field → Found
+abbrev pub foundBy : ℕ → Option Field → FoundAt
 foundBy zero none = record { number = 0; start = 0; size = 0 }
 foundBy zero (some f) = record { number = 0; start = f .start; size = 3 + f .size }
 foundBy (suc k) o = record { number = suc k; start = 0; size = 0 }
 
 -- the record search
-abbrev pub findRecord : (slot block : List ℕ) (type : ℕ) → Found
+abbrev pub findRecord : (slot block : List ℕ) (type : ℕ) → FoundAt
 findRecord slot block type = foundBy (firstOf (recordRefusals slot block type)) (recordIn (deciding slot block) type)
 
 -- the bytes of the part of a block
-abbrev pub part : Found → List ℕ → List ℕ
+abbrev pub part : FoundAt → List ℕ → List ℕ
 part r l = take (r .size) (drop (r .start) l)
 
 -- "never a copy": where the deciding block lies, and where a part of it does, each a region of memory and an offset
@@ -134,7 +134,7 @@ abbrev pub decidingAt : (slot : List ℕ) → (slotAt blockAt : ℕ × ℕ) → 
 decidingAt [] slotAt blockAt = blockAt
 decidingAt (x ∷ slot) slotAt blockAt = slotAt
 
-abbrev pub partAt : Found → ℕ × ℕ → ℕ × ℕ
+abbrev pub partAt : FoundAt → ℕ × ℕ → ℕ × ℕ
 partAt r p = (p .0, r .start + p .1)
 
 -- ---- register values

@@ -38,7 +38,7 @@ abbrev pub baseOf : Option Entry → ℕ
 baseOf none = 0
 baseOf (some e) = e .base
 
--- "kind (Express or conventional)"
+-- "kind (Express or conventional)": its two numbers at the boundary, which document 02, m) names too
 abbrev pub express : ℕ
 express = 0
 
@@ -112,6 +112,6 @@ pub record Sound (t : Table) : Type 0 where
       → (a : ℕ) → inWindow a (bridgeAt t i) ≡ true → inWindow a (bridgeAt t j) ≡ true → ⊥
   pub window-ends : (i : ℕ) → i < t .count → busEnd (bridgeAt t i .base) (bridgeAt t i .«last_bus») ≤ 2 ^ 64
 
--- what a call on one row may require of it, as `Sound` gives it: where the bridge is in the table, its window ends at 2^64 at most
-abbrev pub RowSound : (bridges : ℕ) → BridgeNumber → Bridge → Type 0
-RowSound bridges n b = n .0 < bridges → busEnd (b .base) (b .«last_bus») ≤ 2 ^ 64
+-- what a call on one bridge may require of it, as `Sound` gives it: where the bridge is in the table, its window ends at 2^64 at most
+abbrev pub BridgeSound : (bridges : ℕ) → BridgeNumber → Bridge → Type 0
+BridgeSound bridges n b = n .0 < bridges → busEnd (b .base) (b .«last_bus») ≤ 2 ^ 64

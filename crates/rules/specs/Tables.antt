@@ -42,7 +42,7 @@ owns s b = eqb (b .owner .0) (s .0)
 abbrev pub noBridge : Bridge
 noBridge = record { base = 0; permitted = 0; held = 0; supported = 0; segment = 0; owner = record { 0 = 0 }; «first_bus» = 0; «last_bus» = 0 }
 
--- what stands in a place of the table that no bridge has
+-- what stands where the table has no bridge
 abbrev pub unused : Bridge
 unused = record { base = 0; permitted = 0; held = 0; supported = 0; segment = 0; owner = record { 0 = 0 }; «first_bus» = 0; «last_bus» = 0 }
 
@@ -58,7 +58,7 @@ bridgeAt t i = getD (t .bridges) i noBridge
 abbrev pub bridgesOf : Table → List Bridge
 bridgesOf t = take (t .count) (t .bridges)
 
--- the table with these in its places
+-- the table with this array
 abbrev pub withBridges : Table → List Bridge → Table
 withBridges t l = tableWith l (t .count)
 

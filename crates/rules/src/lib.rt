@@ -35,7 +35,7 @@ pub struct Bridge {
     pub last_bus: u8,
 }
 
-// Bridges 0 to count - 1 stand first; the other places are unused.
+// Bridges 0 to count - 1 stand first; the rest of the array is unused.
 #[repr(C)]
 pub struct Table {
     pub bridges: [Bridge; MAX_ROWS],
@@ -74,10 +74,60 @@ pub struct Field {
     pub size: usize,
 }
 
-// What the record search gives: its number, and the part of the deciding block, header included.
+// What the record search gives: its number, and where the part of the deciding block starts and its length, header included.
 #[repr(C)]
-pub struct Found {
+pub struct FoundAt {
     pub number: u8,
     pub start: usize,
     pub size: usize,
+}
+
+// ---- the answers of the public calls: the number, and what is handed back beside it
+
+// Start's: the table stands first, so that nothing but its bridges is copied when it is handed back.
+#[repr(C)]
+pub struct Started {
+    pub table: Table,
+    pub number: u8,
+}
+
+#[repr(C)]
+pub struct Reported {
+    pub number: u8,
+    pub holding: Holding,
+}
+
+#[repr(C)]
+pub struct Addressed {
+    pub number: u8,
+    pub address: u64,
+}
+
+// Locate's, the place of an address.
+#[repr(C)]
+pub struct Located {
+    pub number: u8,
+    pub place: Place,
+}
+
+// The record search's; the part of the deciding block is empty when refused.
+pub struct Found<'a> {
+    pub number: u8,
+    pub part: &'a [u8],
+}
+
+// The same as it crosses to C: whether the record lies in the slot's block, where it starts there and its length, header included.
+#[repr(C)]
+pub struct RecordAt {
+    pub number: u8,
+    pub in_slot: bool,
+    pub start: usize,
+    pub size: usize,
+}
+
+// The eight new register values.
+#[repr(C)]
+pub struct Values {
+    pub number: u8,
+    pub values: [u32; 8],
 }

@@ -1,15 +1,16 @@
-// The calls of document 01 on a lent table, which C and Rust link. Each works on one row where it stands: the call on the row hands back the row, and what it holds, all that a
-// call changes, is stored where the number is 0; a refused call stores nothing in the table. Some row is read whatever the bridge number is (rows::index); the call on the row refuses a
+// The calls of document 01 on a lent table, which C and Rust link. Each works on one bridge where it stands: the call on the bridge hands it back, and what it holds, all that a
+// call changes, is stored where the number is 0; a refused call stores nothing in the table. Some bridge is read whatever the bridge number is (one_bridge::index); the call on the bridge refuses a
 // bridge that the table has not. The proofs walk the code by hand.
-use hpx::Values;
-use locate::Located;
-use rows::Addressed;
-use rows::Reported;
+use rules::Addressed;
 use rules::BridgeNumber;
 use rules::BridgeRow;
+use rules::Located;
+use rules::RecordAt;
+use rules::Reported;
 use rules::SessionNumber;
+use rules::Started;
 use rules::Table;
-use start::Started;
+use rules::Values;
 ghost use mathlib.Core.Path.{_≡_};
 ghost use mathlib.Core.List.{[], _∷_};
 ghost use Rattle.rules.specs.Start.{startNumber, startTable, Sound};
@@ -57,8 +58,8 @@ pub extern "C" fn slipwattle_osc(
         ≡ step (now (t .entry)) (on s n (osc revision count (now (uuid .entry)) (now (caps .entry)) (now (answer .entry)))) .outcome)
         × (now (t .exit) ≡ step (now (t .entry)) (on s n (osc revision count (now (uuid .entry)) (now (caps .entry)) (now (answer .entry)))) .table) ⌝ }
 {
-    let i = rows::index(n);
-    let done = rows::osc(
+    let i = one_bridge::index(n);
+    let done = one_bridge::osc(
         t.count,
         t.bridges[i],
         s,
@@ -70,8 +71,8 @@ pub extern "C" fn slipwattle_osc(
         answer,
     );
     if done.number == 0 {
-        t.bridges[i].held = done.row.held;
-        t.bridges[i].supported = done.row.supported;
+        t.bridges[i].held = done.bridge.held;
+        t.bridges[i].supported = done.bridge.supported;
     }
     done.number
 }
@@ -81,11 +82,11 @@ pub extern "C" fn slipwattle_reset(t: &mut Table, s: SessionNumber, n: BridgeNum
     requires { ⌜ Sound (now t) ⌝ }
     ensures { λ r. ⌜ (outcome r nothing [] ≡ step (now (t .entry)) (on s n reset) .outcome) × (now (t .exit) ≡ step (now (t .entry)) (on s n reset) .table) ⌝ }
 {
-    let i = rows::index(n);
-    let done = rows::reset(t.count, t.bridges[i], s, n);
+    let i = one_bridge::index(n);
+    let done = one_bridge::reset(t.count, t.bridges[i], s, n);
     if done.number == 0 {
-        t.bridges[i].held = done.row.held;
-        t.bridges[i].supported = done.row.supported;
+        t.bridges[i].held = done.bridge.held;
+        t.bridges[i].supported = done.bridge.supported;
     }
     done.number
 }
@@ -96,8 +97,8 @@ pub extern "C" fn slipwattle_report(t: &mut Table, s: SessionNumber, n: BridgeNu
     ensures { λ r. ⌜ (outcome (r .number) (reported (r .holding)) [] ≡ step (now (t .entry)) (on s n report) .outcome)
         × (now (t .exit) ≡ step (now (t .entry)) (on s n report) .table) ⌝ }
 {
-    let i = rows::index(n);
-    rows::report(t.count, t.bridges[i], s, n)
+    let i = one_bridge::index(n);
+    one_bridge::report(t.count, t.bridges[i], s, n)
 }
 
 // The numbers of a place are u32, so that device 256 is refused and not taken for device 0.
@@ -116,8 +117,8 @@ pub extern "C" fn slipwattle_address(
     ensures { λ r. ⌜ (outcome (r .number) (addressed (r .address)) [] ≡ step (now (t .entry)) (on s n (address bus device function offset width)) .outcome)
         × (now (t .exit) ≡ step (now (t .entry)) (on s n (address bus device function offset width)) .table) ⌝ }
 {
-    let i = rows::index(n);
-    rows::address(
+    let i = one_bridge::index(n);
+    one_bridge::address(
         t.count,
         t.bridges[i],
         s,
@@ -130,7 +131,7 @@ pub extern "C" fn slipwattle_address(
     )
 }
 
-// The rows are searched where they stand; locate::seek looks at one.
+// The bridges are searched where they stand; locate::seek looks at one.
 #[no_mangle]
 pub extern "C" fn slipwattle_locate(t: &mut Table, s: SessionNumber, address: u64) -> Located
     requires { ⌜ Sound (now t) ⌝ }
@@ -144,15 +145,6 @@ pub extern "C" fn slipwattle_locate(t: &mut Table, s: SessionNumber, address: u6
         p = locate::seek(p, n, t.bridges[i], s, address);
     }
     p.found
-}
-
-// A found record as it crosses: its number, whether it lies in the slot's block, where it starts there and its length, header included.
-#[repr(C)]
-pub struct RecordAt {
-    pub number: u8,
-    pub in_slot: bool,
-    pub start: usize,
-    pub size: usize,
 }
 
 // The record type is u32, so that type 256 is refused and not taken for type 0.
@@ -195,6 +187,6 @@ pub extern "C" fn slipwattle_register_values<'a>(
         ≡ step (now (t .entry)) (on s n (registerValues (now (slot .entry)) (now (block .entry)) (now (current .entry)))) .outcome)
         × (now (t .exit) ≡ step (now (t .entry)) (on s n (registerValues (now (slot .entry)) (now (block .entry)) (now (current .entry)))) .table) ⌝ }
 {
-    let i = rows::index(n);
-    rows::register_values(t.count, t.bridges[i], s, n, slot, block, current)
+    let i = one_bridge::index(n);
+    one_bridge::register_values(t.count, t.bridges[i], s, n, slot, block, current)
 }

@@ -1,8 +1,8 @@
--- Start row by row: the first i rows of a list are sound, apart and in their places; one more row; the whole list.
+-- Start row by row: the first i rows of a list are sound, apart and stored; one more row; the whole list.
 -- Assumes nothing.
 use Prim.Native.Nat.{ℕ, _+_, _≤_, _<_}
-use mathlib.Core.Path.{_≡_, refl, sym, ap, ap₂, _∙_}
-use mathlib.Core.Bool.{Bool, true, false, not, cond, _&&_, true≢false}
+use mathlib.Core.Path.{_≡_, refl, sym, ap, _∙_}
+use mathlib.Core.Bool.{Bool, true, false, not, _&&_, true≢false}
 use mathlib.Core.List.{List, [], _∷_, _++_, map}
 use native.Mathlib.Numerals.{add-one}
 use native.Mathlib.Omega.{arith}
@@ -31,9 +31,9 @@ module _ (es : List Entry) where
   abbrev pub rowsGood : List BridgeRow → Bool
   rowsGood rows = every (rowSound es) rows && pairwise rowsApart rows
 
-  -- the places of the table of these rows
-  abbrev pub placesOf : List BridgeRow → List Bridge
-  placesOf rows = padded unused maxRows (map (bridgeOf es) rows)
+  -- the array of the table of these rows
+  abbrev pub arrayOf : List BridgeRow → List Bridge
+  arrayOf rows = padded unused maxRows (map (bridgeOf es) rows)
 
   -- the row is sound, and apart from the rows before it
   abbrev pub admissible : List BridgeRow → BridgeRow → Bool
@@ -45,23 +45,23 @@ module _ (es : List Entry) where
         rw (every-snoc (rowSound es) rows r, pairwise-snoc rowsApart rows r)
         (shuffle (every (rowSound es) rows) (rowSound es r) (pairwise rowsApart rows) (every (λ (q : BridgeRow). rowsApart q r) rows))
 
-    placed-more : length rows < maxRows → set (placesOf rows) (length rows) (bridgeOf es r) ≡ placesOf (rows ++ r ∷ [])
-    placed-more room = rw (map-snoc (bridgeOf es) rows r) (sym stored)
+    stored-more : length rows < maxRows → set (arrayOf rows) (length rows) (bridgeOf es r) ≡ arrayOf (rows ++ r ∷ [])
+    stored-more room = rw (map-snoc (bridgeOf es) rows r) (sym stored)
       where
         n : length (map (bridgeOf es) rows) ≡ length rows
         n = length-map rows (bridgeOf es)
 
-        stored : padded unused maxRows (map (bridgeOf es) rows ++ bridgeOf es r ∷ []) ≡ set (placesOf rows) (length rows) (bridgeOf es r)
-        stored = padded-snoc unused maxRows (map (bridgeOf es) rows) (bridgeOf es r) (rw n room) ∙ ap (λ (k : ℕ). set (placesOf rows) k (bridgeOf es r)) n
+        stored : padded unused maxRows (map (bridgeOf es) rows ++ bridgeOf es r ∷ []) ≡ set (arrayOf rows) (length rows) (bridgeOf es r)
+        stored = padded-snoc unused maxRows (map (bridgeOf es) rows) (bridgeOf es r) (rw n room) ∙ ap (λ (k : ℕ). set (arrayOf rows) k (bridgeOf es r)) n
 
-  -- the first i rows of a list are sound, apart and in their places
+  -- the first i rows of a list are sound, apart and stored
   pub record Listed (rows : List BridgeRow) (i : ℕ) (l : List Bridge) : Type 0 where
     pub upto : i ≤ length rows
-    pub places : l ≡ placesOf (take i rows)
+    pub stored : l ≡ arrayOf (take i rows)
     pub good : rowsGood (take i rows) ≡ true
 
   pub listed-none : (rows : List BridgeRow) → Listed rows 0 (padded unused maxRows [])
-  listed-none rows = record { upto = omega arith; places = refl; good = refl }
+  listed-none rows = record { upto = omega arith; stored = refl; good = refl }
 
   module _ (rows : List BridgeRow) (i : ℕ) (l : List Bridge) (d : BridgeRow) (listed : Listed rows i l) (left : i < length rows) where
     abbrev here : BridgeRow
@@ -76,7 +76,7 @@ module _ (es : List Entry) where
 
     -- the row is admitted
     pub listed-more : length rows ≤ maxRows → admissible (take i rows) here ≡ true → Listed rows (i + 1) (set l i (bridgeOf es here))
-    listed-more few a = record { upto = omega arith; places = stored; good = more ∙ a }
+    listed-more few a = record { upto = omega arith; stored = put; good = more ∙ a }
       where
         front : length (take i rows) ≡ i
         front = length-take-le i rows (listed .upto)
@@ -84,8 +84,8 @@ module _ (es : List Entry) where
         room : length (take i rows) < maxRows
         room = rw front (omega arith)
 
-        stored : set l i (bridgeOf es here) ≡ placesOf (take (i + 1) rows)
-        stored = rw (next, listed .places) (rw front at (placed-more (take i rows) here room))
+        put : set l i (bridgeOf es here) ≡ arrayOf (take (i + 1) rows)
+        put = rw (next, listed .stored) (rw front at (stored-more (take i rows) here room))
 
     -- it is not: the whole list breaks a rule
     pub listed-stop : admissible (take i rows) here ≡ false → rowsSound es rows ≡ false
@@ -99,7 +99,7 @@ module _ (es : List Entry) where
             true≢false (sym (and-is (every-take (rowSound es) rows (i + 1) sound) (pairwise-take rowsApart rows (i + 1) apart)) ∙ more ∙ a)
 
   -- all rows are listed
-  pub listed-all : (rows : List BridgeRow) (i : ℕ) (l : List Bridge) → Listed rows i l → length rows ≤ i → length rows ≤ maxRows → (rowsSound es rows ≡ true) × (l ≡ placesOf rows)
+  pub listed-all : (rows : List BridgeRow) (i : ℕ) (l : List Bridge) → Listed rows i l → length rows ≤ i → length rows ≤ maxRows → (rowsSound es rows ≡ true) × (l ≡ arrayOf rows)
   unfolding rowsSound
   listed-all rows i l listed past few =
       let w = take-all i rows past in
@@ -107,7 +107,7 @@ module _ (es : List Entry) where
         and-is
             (and-is (le-leb (length rows) maxRows few) (and-l (every (rowSound es) rows) (pairwise rowsApart rows) g))
             (and-r (every (rowSound es) rows) (pairwise rowsApart rows) g),
-        rw w at (listed .places),
+        rw w at (listed .stored),
       )
 
 -- a list of more rows than a table holds

@@ -4,12 +4,12 @@ use Prim.Native.Nat.{ℕ, _+_, _-_, _≤_, _<_}
 use mathlib.Core.Path.{_≡_, refl, sym, ap, ap₂, _∙_}
 use mathlib.Core.Logic.{_⊎_, inl, inr}
 use mathlib.Core.Bool.{Bool, true, false, cond}
-use mathlib.Core.List.{List, [], map}
+use mathlib.Core.List.{List}
 use native.Mathlib.Nat.{le-refl}
 use native.Mathlib.Omega.{arith}
 use lib.Dec.{eqb}
 use lib.ListN.{length, take, getD, set, replicate, length-map}
-use borrow.Author.Tests.{eqb-true, eqb-false, eq-eqb, ne-eqb}
+use borrow.Author.Tests.{eqb-true, eqb-false, ne-eqb}
 use Rattle.rules.specs.Limits.{maxRows}
 use Rattle.rules.specs.Mcfg.{entries, mcfgSound}
 use Rattle.rules.specs.Tables.{unused, tableWith}
@@ -22,11 +22,11 @@ use Rattle.rules.proofs.Starting.{noRow}
 use Rattle.start.specs.Admission.{firstNumber, Judges, startedWith}
 use Rattle.start.specs.declared.Judged.{Judged}
 use Rattle.start.proofs.Listing.{padded-none}
-use Rattle.start.proofs.Admission.{admissible, placesOf, Listed, listed-none, listed-more, listed-stop, listed-all, Refused, rows-refused, all-admitted, first-passes, first-refuses}
+use Rattle.start.proofs.Admission.{admissible, Listed, listed-none, listed-more, listed-stop, listed-all, Refused, rows-refused, all-admitted, first-passes, first-refuses}
 
--- the places of a table with no bridges
-abbrev pub noPlaces : List Bridge
-noPlaces = replicate maxRows unused
+-- the array of a table with no bridges
+abbrev pub noBridges : List Bridge
+noBridges = replicate maxRows unused
 
 -- after each row fewer are left
 pub nearer : (n i m j : ℕ) → j ≡ cond (eqb m 0) (i + 1) n → i < n → n - j < n - i
@@ -55,16 +55,16 @@ module _ (x : StartInput) (first n : ℕ) (is-first : first ≡ firstNumber (x .
     pub some-so-far : number ≡ 0 → ⊥
     pub at-end : i ≡ n
     pub refused : Refused x number
-    pub clear : number ≡ first → l ≡ noPlaces
+    pub clear : number ≡ first → l ≡ noBridges
 
   abbrev pub Reached : (i number : ℕ) → List Bridge → Type 0
   Reached i number l = Going i number l ⊎ Stopped i number l
 
   -- before the first row
-  pub reached-none : Reached 0 first noPlaces
+  pub reached-none : Reached 0 first noBridges
   reached-none = go (eqb first 0) refl
     where
-      go : (t : Bool) → eqb first 0 ≡ t → Reached 0 first noPlaces
+      go : (t : Bool) → eqb first 0 ≡ t → Reached 0 first noBridges
       go true e =
           let z = eqb-true first 0 e in let p = first-passes x first is-first z in
           inl (record { none-first = z; none-so-far = z; sound = p .0; few = p .1; all = is-n ∙ ap (λ (t : Bool). cond t (length (x .rows)) 0) e; listed = rw (sym (padded-none unused maxRows)) (listed-none es (x .rows)) })
@@ -122,20 +122,20 @@ module _ (x : StartInput) (first n : ℕ) (is-first : first ≡ firstNumber (x .
             clear = λ z. absurd (omega (arith, going .none-first));
           }))
 
-    -- the walk has ended: the places are cleared where a row was refused
+    -- the walk has ended: the array is cleared where a row was refused
     module _ (past : n ≤ i) (count : ℕ) (is-count : count ≡ cond (eqb number 0) n 0) where
       abbrev Answered : List Bridge → Type 0
       Answered m = Judges x (record { bridges = m; count = count; number = number })
 
-      stopped : (m : List Bridge) → m ≡ noPlaces → (number ≡ 0 → ⊥) → Refused x number → Answered m
+      stopped : (m : List Bridge) → m ≡ noBridges → (number ≡ 0 → ⊥) → Refused x number → Answered m
       stopped m f z r = rw (f, sym (padded-none unused maxRows), is-count, ne-eqb number 0 z) (r .0, ap (λ (t : Table). t .bridges) (r .1), ap (λ (t : Table). t .count) (r .1))
 
-      pub cleared : (number ≡ first → ⊥) → Answered noPlaces
+      pub cleared : (number ≡ first → ⊥) → Answered noBridges
       cleared other = go reached
         where
-          go : Reached i number l → Answered noPlaces
+          go : Reached i number l → Answered noBridges
           go (inl g) = absurd (other (g .none-so-far ∙ sym (g .none-first)))
-          go (inr s) = stopped noPlaces refl (s .some-so-far) (s .refused)
+          go (inr s) = stopped noBridges refl (s .some-so-far) (s .refused)
 
       pub kept : number ≡ first → Answered l
       kept same = go reached

@@ -13,7 +13,7 @@ use Rattle.rules.specs.Tables.{tableWith}
 use Rattle.rules.specs.Start.{StartInput, express, conventional, permissible, startNumber, startTable}
 use Rattle.rules.specs.declared.BridgeRow.{BridgeRow}
 use Rattle.start.specs.declared.Judged.{Judged}
-use Rattle.start.specs.declared.Started.{Started}
+use Rattle.rules.specs.declared.Started.{Started}
 
 -- `rowSound`, with the entry already looked for
 abbrev pub rowSoundIf : (inside : Bool) → BridgeRow → Bool

@@ -2,6 +2,7 @@
 use rules::Bridge;
 use rules::BridgeRow;
 use rules::SessionNumber;
+use rules::Started;
 use rules::Table;
 use rules::constants::CONVENTIONAL;
 use rules::constants::EXPRESS;
@@ -52,14 +53,14 @@ pub fn rows_apart(q: BridgeRow, row: BridgeRow) -> bool
     (q.last_bus < row.first_bus) | (row.last_bus < q.first_bus)
 }
 
-// A row judged: 0 and its bridge, or 7 and zeros.
+// A row judged: 0 and its bridge, or 7 and no bridge.
 #[repr(C)]
 pub struct Admitted {
     pub number: u8,
     pub bridge: Bridge,
 }
 
-// What stands in a place that no bridge has.
+// What stands where a table has no bridge.
 pub fn unused() -> Bridge
     ensures { λ r. ⌜ r ≡ unused ⌝ }
 {
@@ -81,11 +82,11 @@ pub fn admit(mcfg: &[u8], row: BridgeRow, apart: bool) -> Admitted
     ensures { λ r. ⌜ (r .number ≡ cond (rowSound (entries (now (mcfg .entry))) row && apart) 0 7)
         × (r .bridge ≡ cond (rowSound (entries (now (mcfg .entry))) row && apart) (bridgeOf (entries (now (mcfg .entry))) row) unused) ⌝ }
 {
-    let place = mcfg::entry_of(mcfg, row);
-    if row_sound(row, place.found) & apart {
+    let entry = mcfg::entry_of(mcfg, row);
+    if row_sound(row, entry.found) & apart {
         let owner = row.owner;
         let bridge = Bridge {
-            base: place.base,
+            base: entry.base,
             permitted: row.permitted,
             held: 0,
             supported: 0,
@@ -125,7 +126,7 @@ pub fn if_done(number: u8, done: usize, refused: usize) -> usize
     refused
 }
 
-// Rows judged: 0, their bridges in the places of a table, and how many; or 7, unused places and none.
+// Rows judged: 0, their bridges in the array of a table, and how many; or a refusal, and no bridge.
 #[repr(C)]
 pub struct Judged {
     pub bridges: [Bridge; rules::MAX_ROWS],
@@ -149,13 +150,6 @@ fn table_with(bridges: [Bridge; rules::MAX_ROWS], count: usize) -> Table
     ensures { λ r. ⌜ r ≡ tableWith bridges count ⌝ }
 {
     Table { bridges, count }
-}
-
-// What start gives: the table and its number. The table stands first, so that nothing but its places is copied when it is handed back.
-#[repr(C)]
-pub struct Started {
-    pub table: Table,
-    pub number: u8,
 }
 
 // What start gives of rows judged.

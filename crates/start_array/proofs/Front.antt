@@ -1,6 +1,6 @@
 -- Of an array in a local the first n elements are lent.
 --     take-min     the first of a list, however many are asked for
---     rest         the elements after the first n.        cuts, glues      the first n elements of a row in memory, apart from the rest, and back
+--     rest         the elements after the first n.        cuts, glues      the first n elements of an array in memory, apart from the rest, and back
 --     lends-first, first-back      as steps: the first n elements are lent as a shared slice, and come back
 -- `take-min` assumes nothing, the others assume `Given`.
 use mathlib.Core.Path.{_≡_, refl, sym, ap, _∙_}
@@ -13,14 +13,12 @@ use borrow.Author.Tests.{leb-true, leb-false}
 use lib.Dec.{leb}
 use lib.ListN.{length, take}
 use lib.Seq.{take-all}
-use Rattle.walks.proofs.Kit.{URA, fullShare, erased, Val, ent, sep, Fml, GName, Share, ftrue, fsep, fat, flft, flent, Heap, Atoms, sem, Given, Goal, Soaks, Item, Seq, Step, ‵, _⊛_, some, later, _$_, _∵_, !, qed, move, use1, use2, drop, split, pick, await, fsplit, fjoin, fpick, fpack, feqI, done, arr-parts, RattleType, Is, shows, cellAt, partAt, mem, shares, RefT, ShrSlice, Room, slice-vals, Array, nothing, facts, owned}
+use Rattle.walks.proofs.Kit.{URA, fullShare, erased, ent, sep, Fml, GName, Share, ftrue, flft, flent, Heap, Atoms, sem, Given, Goal, Soaks, Item, Seq, Step, ‵, _⊛_, some, later, _$_, _∵_, !, qed, move, use1, use2, drop, split, pick, await, fsplit, fjoin, feqI, done, arr-parts, RattleType, partAt, mem, shares, RefT, ShrSlice, Room, slice-vals, Array, nothing}
 use types.Kit.{step}
 use types.Tokens.{lft-new, lft-end, lent-back}
 use denote.Lend.{lends-shr-slice}
-use denote.Memory.{partOf}
 use denote.ArrayMemory.{Single, array-apart, array-whole}
 use denote.Index.{row}
-use denote.Struct.Steps.{spelt}
 use Rattle.walks.proofs.Values.{Value}
 use Rattle.walks.proofs.Arrays.{IsArray, Whole, to-memory, to-local}
 
@@ -63,7 +61,7 @@ module _ (V′ : Value) (N l : ℕ) where
   abbrev Apart : List (R .Denot) → Fml
   Apart xs = arr-parts (shares R) N .part fullShare xs l 0
 
-  -- the first n, as a shared slice and as a row
+  -- the first n, as a shared slice and side by side
   abbrev pub first : ℕ → List (R .Denot) → GName → RefT (List (R .Denot))
   first n xs γ = record { ptr = (l, 0); name = γ; now = take n xs }
 

@@ -1,6 +1,6 @@
 // Start with the rows of an array by value, for programs: the array is lent here.
 use rules::BridgeRow;
-use start::Started;
+use rules::Started;
 ghost use mathlib.Core.Path.{_≡_};
 ghost use Prim.Native.Nat.{_+_, min};
 ghost use lib.ListN.{take};

@@ -1,14 +1,14 @@
 -- Plain data: a value is one machine value, and owns only facts.
 --     Value            such a type: `number`, `truth`, `struct` and `array` are the kinds, `word` the number that lengths are
---     repeated, repeated-is        an array of one value n times: its machine value, and that it is one
+--     repeated-is      an array of one value n times is one
 --     told             as a step: of a value that came back, the machine value is written out and the relation in hand, and what it owns is let go
 -- Assumes nothing; the laws and the step take `Given`.
-use mathlib.Core.Path.{_≡_, refl, sym, ap, subst}
+use mathlib.Core.Path.{refl, sym, ap, subst}
 use mathlib.Core.List.{[], _∷_, List, map}
 use Prim.Native.Nat.{ℕ, zero, suc}
 use lib.ListN.{replicate, length-replicate}
 use lib.Dec.{T as So}
-use Rattle.walks.proofs.Kit.{URA, Ty, Width, w64, tyInt, tyBool, Val, vint, vbool, WT, hasTy, Heap, Atoms, Given, Goal, Item, Seq, ‵, RattleType, Is, Tells, Makes, Lawful, shows, lone, Array, array-vals, array-tells, array-lawful, array-makes, arrayVal, each, only, facts}
+use Rattle.walks.proofs.Kit.{URA, Ty, Width, w64, tyInt, tyBool, Val, vint, vbool, WT, hasTy, Heap, Atoms, Given, Goal, Item, Seq, ‵, RattleType, Is, Tells, Makes, Lawful, shows, lone, Array, array-vals, array-tells, array-lawful, array-makes, each, only, facts}
 use denote.Shadow.{shadow}
 use denote.Plain.{UInt, Boolean, uint-tells, uint-lawful, uint-makes, bool-tells, bool-lawful, bool-makes}
 use denote.Struct.Struct.{Plains, layout}
@@ -49,13 +49,6 @@ array V′ n = record {
 }
 
 module _ (V′ : Value) where
-  vals-repeated : (n : ℕ) (x : V′ .row .Denot) → replicate n (V′ .val x) ≡ map (V′ .val) (replicate n x)
-  vals-repeated zero x = refl
-  vals-repeated (suc n) x = ap (λ (vs : List Val). V′ .val x ∷ vs) (vals-repeated n x)
-
-  pub repeated : (n : ℕ) (x : V′ .row .Denot) → arrayVal (replicate n (V′ .val x)) ≡ array V′ n .val (replicate n x)
-  repeated n x = ap arrayVal (vals-repeated n x)
-
   each-repeated : (n : ℕ) (x : V′ .row .Denot) → Is (V′ .row) x (V′ .val x ∷ []) → shadow (each (V′ .row .Denot) (V′ .row .own) (replicate n x) (map (V′ .val) (replicate n x)))
   each-repeated zero x is = tt
   each-repeated (suc n) x is = (is, each-repeated n x is)

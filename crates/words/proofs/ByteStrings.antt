@@ -10,7 +10,7 @@ use lib.Seq.{drop-cons}
 use borrow.Author.Tests.{eq-eqb, eqb-true}
 use Rattle.rules.specs.Numbers.{sum, sameBytes}
 
--- the sum from place i is the byte there and the sum from the next
+-- the sum from byte i on is the byte there and the sum from the next
 pub sum-step : (b : List ℕ) (i : ℕ) → i < length b → sum (drop i b) ≡ getD b i 0 + sum (drop (i + 1) b)
 sum-step b i h = rw (add-one, drop-cons b i 0)
 
@@ -47,7 +47,7 @@ same-flag a b false h k = no (sameBytes a b) refl
 pub differ-length : (a b : List ℕ) → (length a ≡ length b → ⊥) → sameBytes a b ≡ false
 differ-length a b h = sym (same-flag a b false (λ e. cc) (λ e. absurd (h (ap length e))))
 
--- strings of one length, compared from place i on: one byte more, and past the end
+-- strings of one length, compared from byte i on: one byte more, and past the end
 module _ (a b : List ℕ) (i : ℕ) (e : length a ≡ length b) where
   pub same-step : i < length a → (q : Bool) → (q && eqb (getD a i 0) (getD b i 0)) && sameBytes (drop (i + 1) a) (drop (i + 1) b) ≡ q && sameBytes (drop i a) (drop i b)
   same-step h q = rw (add-one, drop-cons a i 0 h, drop-cons b i 0 (subst (λ (n : ℕ). i < n) e h)) (and-assoc q (eqb (getD a i 0) (getD b i 0)) (sameBytes (drop (suc i) a) (drop (suc i) b)))

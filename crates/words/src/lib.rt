@@ -12,7 +12,7 @@ fn wide(x: u8) -> u32
     x as u32
 }
 
-// The 2 bytes at a place.
+// The 2 bytes from `at` on.
 pub fn read16(b: &[u8], at: usize) -> u16
     requires { ⌜ 2 + at ≤ length (now b) ⌝ }
     ensures { λ r. ⌜ r ≡ word (now (b .entry)) at ⌝ }
@@ -20,7 +20,7 @@ pub fn read16(b: &[u8], at: usize) -> u16
     (wide(b[at]) + wide(b[1 + at]) * 256) as u16
 }
 
-// The 4 bytes at a place. Of one sum of bytes the compiler makes one load; of two read16 it makes two.
+// The 4 bytes from `at` on. Of one sum of bytes the compiler makes one load; of two read16 it makes two.
 pub fn read32(b: &[u8], at: usize) -> u32
     requires { ⌜ 4 + at ≤ length (now b) ⌝ }
     ensures { λ r. ⌜ r ≡ dword (now (b .entry)) at ⌝ }
@@ -29,7 +29,7 @@ pub fn read32(b: &[u8], at: usize) -> u32
     wide(b[at]) + wide(b[1 + at]) * 256 + wide(b[high]) * 65536 + wide(b[1 + high]) * 16777216
 }
 
-// The 8 bytes at a place.
+// The 8 bytes from `at` on.
 pub fn read64(b: &[u8], at: usize) -> u64
     requires { ⌜ 8 + at ≤ length (now b) ⌝ }
     ensures { λ r. ⌜ r ≡ qword (now (b .entry)) at ⌝ }
@@ -37,7 +37,7 @@ pub fn read64(b: &[u8], at: usize) -> u64
     (read32(b, at) as u64) + (read32(b, 4 + at) as u64) * 4294967296
 }
 
-// A DWORD's bytes into a place; the rest stays.
+// A DWORD's bytes from `at` on; the rest stays.
 pub fn write32(b: &mut [u8], at: usize, v: u32)
     requires { ⌜ 4 + at ≤ length (now b) ⌝ }
     ensures { λ _. ⌜ now (b .exit) ≡ take at (now (b .entry)) ++ le32 v ++ drop (4 + at) (now (b .entry)) ⌝ }

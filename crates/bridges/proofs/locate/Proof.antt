@@ -16,9 +16,6 @@ Inv-loop s address t n p₀ p = Seeking t s address p
 abbrev μ-loop : tie.MeasureT-loop
 μ-loop s address t n p₀ p = t .count - p .next
 
-begin-requires : tie.Need-begin-requires Inv-loop μ-loop
-begin-requires c κs = search needs
-
 loop-holds : tie.Need-loop-holds Inv-loop μ-loop
 loop-holds c =
     let a = c .before .args in
@@ -60,4 +57,4 @@ returns c =
 pub locate-spec : {M : Type 1} → statement M
 locate-spec =
     tie.close
-    (tie.spec Inv-loop μ-loop begin-requires loop-holds mul-seek element-copy-out-seek seek-requires loop-less loop-again returns)
+    (tie.spec Inv-loop μ-loop (λ c κs. search needs) loop-holds mul-seek element-copy-out-seek seek-requires loop-less loop-again returns)

@@ -4,12 +4,9 @@ use Rattle.ecam.proofs.Windows.{bad-place}
 use Rattle.ecam.proofs.place_bad.Statement.{statement}
 use Rattle.ecam.proofs.place_bad.Tie as tie
 
-misaligned-requires : tie.Need-misaligned-requires
-misaligned-requires c κs = search needs
-
 returns : tie.Need-returns
 returns c =
     bad-place (c .before .args .device) (c .before .args .function) (c .before .args .offset) (c .before .args .width) (c .misaligned .result) (c .misaligned .ensures)
 
 pub place-bad-spec : {M : Type 1} → statement M
-place-bad-spec = tie.close (tie.spec misaligned-requires returns)
+place-bad-spec = tie.close (tie.spec (λ c κs. search needs) returns)

@@ -11,17 +11,5 @@ sub-inside c = in-buses (c .before .args .b) (c .before .args .address) (c .befo
 cast-t6 : tie.Need-cast-t6
 cast-t6 c = omega (arith, in-buses (c .before .args .b) (c .before .args .address) (c .before .pre) .last)
 
-cast-t9 : tie.Need-cast-t9
-cast-t9 c = search needs
-
-cast-t12 : tie.Need-cast-t12
-cast-t12 c = search needs
-
-cast-t14 : tie.Need-cast-t14
-cast-t14 c = search needs
-
-returns : tie.Need-returns
-returns c = search needs
-
 pub place-of-spec : {M : Type 1} → statement M
-place-of-spec = tie.close (tie.spec sub-inside cast-t6 cast-t9 cast-t12 cast-t14 returns)
+place-of-spec = tie.close (tie.spec sub-inside cast-t6 (λ c. search needs) (λ c. search needs) (λ c. search needs) (λ c. search needs))

@@ -7,30 +7,6 @@ use Rattle.hpx.proofs.Registers.{eight-same, eight-new}
 use Rattle.hpx.proofs.new_values.Statement.{statement}
 use Rattle.hpx.proofs.new_values.Tie as tie
 
-register-requires : tie.Need-register-requires
-register-requires c κs = search needs
-
-register-requires-2 : tie.Need-register-requires-2
-register-requires-2 c κs = search needs
-
-register-requires-3 : tie.Need-register-requires-3
-register-requires-3 c κs = search needs
-
-register-requires-4 : tie.Need-register-requires-4
-register-requires-4 c κs = search needs
-
-register-requires-5 : tie.Need-register-requires-5
-register-requires-5 c κs = search needs
-
-register-requires-6 : tie.Need-register-requires-6
-register-requires-6 c κs = search needs
-
-register-requires-7 : tie.Need-register-requires-7
-register-requires-7 c κs = search needs
-
-register-requires-8 : tie.Need-register-requires-8
-register-requires-8 c κs = search needs
-
 returns : tie.Need-returns
 returns c =
     let r8 = c in
@@ -50,12 +26,12 @@ pub new-values-spec : {M : Type 1} → statement M
 new-values-spec =
     tie.close
     (tie.spec
-    register-requires
-    register-requires-2
-    register-requires-3
-    register-requires-4
-    register-requires-5
-    register-requires-6
-    register-requires-7
-    register-requires-8
+    (λ c κs. search needs)
+    (λ c κs. search needs)
+    (λ c κs. search needs)
+    (λ c κs. search needs)
+    (λ c κs. search needs)
+    (λ c κs. search needs)
+    (λ c κs. search needs)
+    (λ c κs. search needs)
     returns)

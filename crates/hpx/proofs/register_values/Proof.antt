@@ -9,12 +9,6 @@ use Rattle.hpx.proofs.Searches.{eight-numbers, number-found, values-ref
 use Rattle.hpx.proofs.register_values.Statement.{statement}
 use Rattle.hpx.proofs.register_values.Tie as tie
 
-deciding-requires : tie.Need-deciding-requires
-deciding-requires c κs = search needs
-
-search-block-requires : tie.Need-search-block-requires
-search-block-requires c κs = search needs
-
 -- the search of the block that decides is the record search
 searched : (c : tie.After-search-block) → let a = c .before .before .before .before .before .args in
     c .search-block .result ≡ findRecord (now (a .slot)) (now (a .block)) 2
@@ -52,4 +46,4 @@ returns-2 c =
 
 pub register-values-spec : {M : Type 1} → statement M
 register-values-spec =
-    tie.close (tie.spec deciding-requires search-block-requires returns new-values-requires returns-2)
+    tie.close (tie.spec (λ c κs. search needs) (λ c κs. search needs) returns new-values-requires returns-2)

@@ -7,15 +7,9 @@ use Rattle.hpx.proofs.registers_bad.Tie as tie
 returns : tie.Need-returns
 returns c = simp (ne-eqb _ 8 (c .if1 .taken))
 
-shared-slice-read-result : tie.Need-shared-slice-read-result
-shared-slice-read-result c = search needs
-
-shared-slice-read-result-2 : tie.Need-shared-slice-read-result-2
-shared-slice-read-result-2 c = search needs
-
 returns-2 : tie.Need-returns-2
 returns-2 c = simp (eq-eqb _ 8 (c .before .before .if1 .left))
 
 pub registers-bad-spec : {M : Type 1} → statement M
 registers-bad-spec =
-    tie.close (tie.spec returns shared-slice-read-result shared-slice-read-result-2 returns-2)
+    tie.close (tie.spec returns (λ c. search needs) (λ c. search needs) returns-2)

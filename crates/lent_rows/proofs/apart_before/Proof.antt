@@ -14,7 +14,7 @@ use mathlib.Core.List.{List, [], _∷_, _++_}
 use lib.Dec.{ltb→lt, nltb→le, lit<}
 use lib.ListN.{length, take, getD}
 use lib.Seq.{take-suc, take-take}
-use Rattle.walks.proofs.Kit.{URA, fullShare, Ty, tyBool, tyPtr, Val, vbool, SProp, emp, id⊢, Lft, Share, flft, fat, Model, Heap, Out, Env, Tables, factI, GhostRules, Running, Given, Item, Sq, prop, ‵, runs, anyQ, atRet, _$_, !, move, keep, rewrite, whole, sub, look-in, look, look-raw, store, init, forget, stop, hop, fld, from, load, lit, true-lit, false-lit, un, of-opd, bin, and-then, no-more, assigns, assigns-last, land, first, skips, jumps, blocks, branches, returns, returns-within, exec, again, loops, Is, RefT, sliceVal, Room, heard}
+use Rattle.walks.proofs.Kit.{URA, Ty, tyBool, tyPtr, Val, vbool, SProp, emp, id⊢, Lft, Share, flft, Model, Heap, Out, Env, Tables, factI, GhostRules, Running, Given, Item, Sq, prop, ‵, runs, anyQ, atRet, _$_, !, move, keep, whole, sub, look-in, look, look-raw, store, init, forget, stop, hop, fld, from, load, lit, true-lit, false-lit, un, of-opd, bin, and-then, no-more, assigns, assigns-last, land, first, skips, jumps, blocks, branches, returns, returns-within, exec, again, loops, Is, RefT, sliceVal, Room, heard}
 use prog.Wp.{afterTurn}
 use Rattle.rules.specs.Lists.{every}
 use Rattle.rules.specs.Start.{rowsApart}
@@ -109,7 +109,7 @@ module _ {M : Type 1} (𝓤 : URA M) (H : Heap 𝓤) (𝓜 : Model 𝓤 H) (𝓖
           assigns ! (bin ! (load ! (from ! (stop !)) (look ! 12 refl)) (load ! (from ! (stop !)) (look ! 16 refl)) tt) (from ! (stop !)) (init ! 10 refl (tt, tt)) $ first ! $ branches ! (load ! (from ! (stop !)) (look ! 10 refl))
           (λ less. let l = ltb→lt _ _ less in let m = in-list l in let fits : z .j * size < 2 ^ 64 = offset-fits (z .j) (length (y .now)) m (room .1) in let more : z .j + 1 < 2 ^ 64 = lt-of-le-of-lt (add-one-le l) (lt-of-le-of-lt inside (room .0)) in
           skips ! $ exec ! (𝓣 .C) (𝓣 .Λ) En (past 2 body.turn-1) (anyQ (Turned z)) $
-          -- row j's place, and the row
+          -- where row j lies, and the row
           assigns ! (bin ! (load ! (from ! (stop !)) (look ! 12 refl)) (lit ! tt) (record { fits = fits })) (from ! (stop !)) (init ! 8 refl (tt, record { fits = fits })) $
           assigns ! (bin ! (load ! (from ! (fld ! refl (stop !))) (look-in ! 18 (sub ! 0 refl (whole !)))) (load ! (from ! (stop !)) (look ! 8 refl)) tt) (from ! (stop !)) (init ! 6 refl (tt, tt)) $
           row-out ! tt y (z .j) m (λ q′ is-p. assigns ! (of-opd ! (load ! (from ! (hop ! (look ! 8 refl) (stop !))) (look-raw ! 0 refl))) (from ! (stop !)) (init ! 6 refl (row .typed 𝓤 H (𝓖 .A) W p is-p)) $ row-back ! tt y (z .j) m q′ is-p $

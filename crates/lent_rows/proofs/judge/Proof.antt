@@ -2,10 +2,10 @@
 --     State            what a turn starts from: how many rows were judged, the number so far, and the bridges. It is the loop's variant too: a turn ends nearer to the end (`Nearer`)
 --     At               the context at the loop's test
 --     turns            a turn: the test, then the row is copied and judged (`judged`), and its bridge stored (`fill`); or the loop is left and the rest runs (`close`)
---     close, finish    the rest: the places are cleared where a row was refused (`close`), and the answer is made of its parts (`finish`)
+--     close, finish    the rest: the array is cleared where a row was refused (`close`), and the answer is made of its parts (`finish`)
 --     walk             the MIR up to the loop, and the loop
 -- Assumes nothing.
-use mathlib.Core.Path.{_≡_, refl, sym, ap, subst}
+use mathlib.Core.Path.{_≡_, refl, sym, subst}
 use mathlib.Core.Bool.{Bool, cond, _&&_}
 use mathlib.Core.Option.{Option, none, some}
 use Prim.Native.Nat.{ℕ, _+_, _*_, _≤_, _<_, _^_}
@@ -78,8 +78,8 @@ byte = number w8
 abbrev bridge : Value
 bridge = struct B.the-type B′.the-laws B′.the-plain
 
-abbrev places : Value
-places = array bridge maxRows
+abbrev bridges : Value
+bridges = array bridge maxRows
 
 abbrev admitted : Value
 admitted = struct D.the-type D′.the-laws D′.the-plain
@@ -92,12 +92,12 @@ Ps = shared-slice 0 tt u8 ∷ shared-slice 1 tt R.the-row ∷ []
 
 abbrev τs : List Ty
 τs =
-    tys (inner 2) Ps ++ bridge .ty ∷ places .ty ∷ byte .ty ∷ word .ty ∷ byte .ty ∷ word .ty ∷ row .ty ∷ admitted .ty ∷ word .ty ∷ word .ty ∷ tyBool ∷ word .ty ∷ tyPtr ∷ row .ty ∷ tyPtr ∷ tyPtr ∷ tyBool ∷ places .ty ∷ []
+    tys (inner 2) Ps ++ bridge .ty ∷ bridges .ty ∷ byte .ty ∷ word .ty ∷ byte .ty ∷ word .ty ∷ row .ty ∷ admitted .ty ∷ word .ty ∷ word .ty ∷ tyBool ∷ word .ty ∷ tyPtr ∷ row .ty ∷ tyPtr ∷ tyPtr ∷ tyBool ∷ bridges .ty ∷ []
 
--- the place of bridge i does not wrap
-place-fits : (i : ℕ) → i < maxRows → i * mem B.the-row .size < 2 ^ 64
+-- where bridge i lies does not wrap
+bridge-fits : (i : ℕ) → i < maxRows → i * mem B.the-row .size < 2 ^ 64
 unfolding maxRows
-place-fits i l = omega arith
+bridge-fits i l = omega arith
 
 module _ {M : Type 1} (𝓤 : URA M) (H : Heap 𝓤) (𝓜 : Model 𝓤 H) (𝓖 : GhostRules 𝓤 H) (𝓡 : Running 𝓤 H 𝓜) (W : Given 𝓤 H (𝓖 .A)) (κ₀ κ : Lft) (q₀ q : Share) (m : RefT (List ℕ)) (y : RefT (List BridgeRow))
     (is-m : Is (ShrSlice (named 0) κ₀ u8) m (slice-vals m)) (is-y : Is (ShrSlice (named 1) κ R.the-row) y (slice-vals y)) (Post : Val → SProp 𝓤) where
@@ -116,8 +116,8 @@ module _ {M : Type 1} (𝓤 : URA M) (H : Heap 𝓤) (𝓜 : Model 𝓤 H) (𝓖
     En = envs (answer .ty ∷ τs) ls ++ []
 
     -- where the bridges lie
-    abbrev at-places : ℕ
-    at-places = ls .1 .1 .1 .1 .0
+    abbrev at-bridges : ℕ
+    at-bridges = ls .1 .1 .1 .1 .0
 
     -- the locals, of which these hold something: [mcfg's token; mcfg; the rows' token; the rows; _20; …; _0; …]
     abbrev With : List (Option Val) → List (Item 𝓤)
@@ -135,7 +135,7 @@ module _ {M : Type 1} (𝓤 : URA M) (H : Heap 𝓤) (𝓜 : Model 𝓤 H) (𝓖
         k : ℕ
         l : List Bridge
         is-k : Is u8 k (byte .val k ∷ [])
-        is-l : Is (places .row) l (places .val l ∷ [])
+        is-l : Is (bridges .row) l (bridges .val l ∷ [])
         reached : Reached lent f n the-first the-n i k l
 
       -- the rows that were judged
@@ -143,7 +143,7 @@ module _ {M : Type 1} (𝓤 : URA M) (H : Heap 𝓤) (𝓜 : Model 𝓤 H) (𝓖
       walked z = z .i
 
       abbrev locals : State → List (Option Val) → List (Option Val)
-      locals z os = held (some (bridge .val b) ∷ some (places .val (z .l)) ∷ some (byte .val f) ∷ some (word .val n) ∷ some (byte .val (z .k)) ∷ some (word .val (z .i)) ∷ os)
+      locals z os = held (some (bridge .val b) ∷ some (bridges .val (z .l)) ∷ some (byte .val f) ∷ some (word .val n) ∷ some (byte .val (z .k)) ∷ some (word .val (z .i)) ∷ os)
 
       abbrev At : State → List (Item 𝓤)
       At z = With (locals z [])
@@ -151,7 +151,7 @@ module _ {M : Type 1} (𝓤 : URA M) (H : Heap 𝓤) (𝓜 : Model 𝓤 H) (𝓖
       abbrev Turned : State → Out → SProp 𝓤
       Turned = turned 𝓤 H (𝓖 .A) 𝓣 En Post body.t-10 (Nearer n walked) At
 
-      blanks-are : Is (places .row) (replicate maxRows b) (places .val (replicate maxRows b) ∷ [])
+      blanks-are : Is (bridges .row) (replicate maxRows b) (bridges .val (replicate maxRows b) ∷ [])
       blanks-are = repeated-is bridge maxRows b is-b
 
       module _ (z : State) where
@@ -190,7 +190,7 @@ module _ {M : Type 1} (𝓤 : URA M) (H : Heap 𝓤) (𝓜 : Model 𝓤 H) (𝓖
             is-bridge = LL.owed D.the-type D′.the-laws a _ is-a .1 .0
 
             -- the state after the row
-            onward : (j : ℕ) → j ≡ cond (eqb (a .number) 0) (z .i + 1) n → Is (places .row) (set (z .l) (z .i) (a .bridge)) (places .val (set (z .l) (z .i) (a .bridge)) ∷ []) → State
+            onward : (j : ℕ) → j ≡ cond (eqb (a .number) 0) (z .i + 1) n → Is (bridges .row) (set (z .l) (z .i) (a .bridge)) (bridges .val (set (z .l) (z .i) (a .bridge)) ∷ []) → State
             onward j g is′ = record {
               i = j;
               k = a .number;
@@ -203,12 +203,12 @@ module _ {M : Type 1} (𝓤 : URA M) (H : Heap 𝓤) (𝓜 : Model 𝓤 H) (𝓖
             fill : Sq W (With (locals z (none ∷ some (admitted .val a) ∷ []))) (runs (𝓣 .C) (𝓣 .Λ) En (past 8 body.turn-1) (anyQ (Turned z)))
             unfolding afterTurn onward
             fill =
-                assigns ! (bin ! (load ! (from ! (stop !)) (look ! 28 refl)) (lit ! tt) (record { fits = place-fits (z .i) inside })) (from ! (stop !)) (init ! 16 refl (tt, record { fits = place-fits (z .i) inside })) $
+                assigns ! (bin ! (load ! (from ! (stop !)) (look ! 28 refl)) (lit ! tt) (record { fits = bridge-fits (z .i) inside })) (from ! (stop !)) (init ! 16 refl (tt, record { fits = bridge-fits (z .i) inside })) $
                 assigns ! (addr ! (from ! (stop !))) (from ! (stop !)) (init ! 10 refl (tt, tt)) $
                 assigns ! (bin ! (load ! (from ! (stop !)) (look ! 10 refl)) (load ! (from ! (stop !)) (look ! 16 refl)) tt) (from ! (stop !)) (init ! 8 refl (tt, tt)) $
-                move ! (36 ∷ []) $ to-memory bridge maxRows at-places ! (z .l) (z .is-l) $ take-out ! bridge way (λ _.
+                move ! (36 ∷ []) $ to-memory bridge maxRows at-bridges ! (z .l) (z .is-l) $ take-out ! bridge way (λ _.
                 assigns ! (of-opd ! (load ! (from ! (fld ! refl (stop !))) (look-in ! 26 (sub ! 1 refl (whole !))))) (from ! (hop ! (look ! 10 refl) (stop !))) (store-raw ! 0 refl (bridge .typed 𝓤 H (𝓖 .A) W (a .bridge) is-bridge)) $
-                put ! bridge way is-bridge $ to-local bridge maxRows at-places ! (set (z .l) (z .i) (a .bridge)) (λ is′. move ! (those 1 36) $
+                put ! bridge way is-bridge $ to-local bridge maxRows at-bridges ! (set (z .l) (z .i) (a .bridge)) (λ is′. move ! (those 1 36) $
                 assigns ! (of-opd ! (load ! (from ! (fld ! refl (stop !))) (look-in ! 24 (sub ! 0 refl (whole !))))) (from ! (stop !)) (store ! 30 refl (byte .typed 𝓤 H (𝓖 .A) W (a .number) is-number)) $
                 assigns ! (bin ! (load ! (from ! (stop !)) (look ! 28 refl)) (lit ! tt) (record { fits = next-fits })) (from ! (stop !)) (store ! 16 refl (tt, record { fits = next-fits })) $
                 invokes 𝓤 H 𝓜 𝓖 𝓡 code.env 0 (value byte ∷ value word ∷ value word ∷ []) word (done.clauses 𝓤 H) tt tt (a .number, (z .i + 1, (n, tt))) (λ j. j ≡ cond (eqb (a .number) 0) (z .i + 1) n) _ (last _) ! done-def.routine code.calls-start·if-done (done-thm.met 𝓤 H 𝓜 𝓖 𝓡) (is-number, ((refl, next-fits), (is-n, tt))) tt (id⊢ 𝓤 _) (λ j ws. id⊢ 𝓤 _)
@@ -216,10 +216,10 @@ module _ {M : Type 1} (𝓤 : URA M) (H : Heap 𝓤) (𝓜 : Model 𝓤 H) (𝓖
                 land-last ! (from ! (stop !)) (store ! 28 refl (word .typed 𝓤 H (𝓖 .A) W j is-j)) $ forget ! 8 refl $ forget ! 10 refl $ forget ! 16 refl $ forget ! 24 refl $
                 again ! (Nearer n walked) At z (onward j g is′) (nearer n (z .i) (a .number) j g left))))
               where
-                way : Inside W fullShare (places .row) B.the-row (z .l) (set (z .l) (z .i) (a .bridge)) (getD (z .l) (z .i) noBridge) (a .bridge) at-places 0 (z .i * mem B.the-row .size + 0)
-                way = item-put W fullShare B.the-row tt maxRows (z .i) (z .i * mem B.the-row .size + 0) at-places 0 (z .l) noBridge (at-mul 0 (mem B.the-row .size) (z .i)) inside (a .bridge)
+                way : Inside W fullShare (bridges .row) B.the-row (z .l) (set (z .l) (z .i) (a .bridge)) (getD (z .l) (z .i) noBridge) (a .bridge) at-bridges 0 (z .i * mem B.the-row .size + 0)
+                way = item-put W fullShare B.the-row tt maxRows (z .i) (z .i * mem B.the-row .size + 0) at-bridges 0 (z .l) noBridge (at-mul 0 (mem B.the-row .size) (z .i)) inside (a .bridge)
 
-          -- the row's place, and the row; it is compared with the rows before it, and judged
+          -- where the row lies, and the row; it is compared with the rows before it, and judged
           judged : Sq W (At z) (runs (𝓣 .C) (𝓣 .Λ) En (past 2 body.turn-1) (anyQ (Turned z)))
           unfolding afterTurn
           judged =
@@ -233,25 +233,25 @@ module _ {M : Type 1} (𝓤 : URA M) (H : Heap 𝓤) (𝓜 : Model 𝓤 H) (𝓖
               (and-then ! (load ! (from ! (stop !)) (look ! 42 refl)) (and-then ! (load ! (from ! (stop !)) (look ! 26 refl)) (and-then ! (load ! (from ! (stop !)) (look ! 18 refl)) (no-more !)))) (λ a is-a e.
               land ! (from ! (stop !)) (init ! 24 refl (admitted .typed 𝓤 H (𝓖 .A) W a is-a)) $ forget ! 12 refl $ forget ! 14 refl $ forget ! 16 refl $ forget ! 18 refl $ forget ! 26 refl $ fill a is-a (subst (λ (u : Bool). Admits u a) g e))))
 
-        -- with these in the places: the count, and the answer of its parts
-        finish : (w : List Bridge) → Is (places .row) w (places .val w ∷ []) → ((c : ℕ) → c ≡ cond (eqb (z .k) 0) n 0 → Judges lent (record { bridges = w; count = c; number = z .k }))
-            → Sq W (With (held (some (bridge .val b) ∷ some (places .val w) ∷ some (byte .val f) ∷ some (word .val n) ∷ some (byte .val (z .k)) ∷ some (word .val (z .i)) ∷ []))) (runs (𝓣 .C) (𝓣 .Λ) En body.t-12 (atRet En Post))
+        -- with these in the array: the count, and the answer of its parts
+        finish : (w : List Bridge) → Is (bridges .row) w (bridges .val w ∷ []) → ((c : ℕ) → c ≡ cond (eqb (z .k) 0) n 0 → Judges lent (record { bridges = w; count = c; number = z .k }))
+            → Sq W (With (held (some (bridge .val b) ∷ some (bridges .val w) ∷ some (byte .val f) ∷ some (word .val n) ∷ some (byte .val (z .k)) ∷ some (word .val (z .i)) ∷ []))) (runs (𝓣 .C) (𝓣 .Λ) En body.t-12 (atRet En Post))
         unfolding maxRows
         finish w is-w judges =
             invokes 𝓤 H 𝓜 𝓖 𝓡 code.env 0 (value byte ∷ value word ∷ value word ∷ []) word (done.clauses 𝓤 H) tt tt (z .k, (n, (0, tt))) (λ c. c ≡ cond (eqb (z .k) 0) n 0) _ (then _ _) ! done-def.routine code.calls-start·if-done (done-thm.met 𝓤 H 𝓜 𝓖 𝓡) (z .is-k, (is-n, ((refl, lit< tt), tt))) tt (id⊢ 𝓤 _) (λ c ws. id⊢ 𝓤 _)
             (and-then ! (load ! (from ! (stop !)) (look ! 30 refl)) (and-then ! (load ! (from ! (stop !)) (look ! 32 refl)) (and-then ! (lit ! tt) (no-more !)))) (λ c is-c g. land ! (from ! (stop !)) (init ! 22 refl (word .typed 𝓤 H (𝓖 .A) W c is-c)) $
-            assigns ! (of-opd ! (load ! (from ! (stop !)) (look ! 36 refl))) (from ! (stop !)) (init ! 4 refl (places .typed 𝓤 H (𝓖 .A) W w is-w)) $
-            invokes 𝓤 H 𝓜 𝓖 𝓡 code.env 0 (value places ∷ value word ∷ value byte ∷ []) answer (full.clauses 𝓤 H) tt tt (w, (c, (z .k, tt))) (λ j. j ≡ record { bridges = w; count = c; number = z .k }) _ (then _ _) ! full-def.routine code.calls-start·judged-with (full-thm.met 𝓤 H 𝓜 𝓖 𝓡) (is-w, (is-c, (z .is-k, tt))) tt (id⊢ 𝓤 _) (λ j ws. id⊢ 𝓤 _)
+            assigns ! (of-opd ! (load ! (from ! (stop !)) (look ! 36 refl))) (from ! (stop !)) (init ! 4 refl (bridges .typed 𝓤 H (𝓖 .A) W w is-w)) $
+            invokes 𝓤 H 𝓜 𝓖 𝓡 code.env 0 (value bridges ∷ value word ∷ value byte ∷ []) answer (full.clauses 𝓤 H) tt tt (w, (c, (z .k, tt))) (λ j. j ≡ record { bridges = w; count = c; number = z .k }) _ (then _ _) ! full-def.routine code.calls-start·judged-with (full-thm.met 𝓤 H 𝓜 𝓖 𝓡) (is-w, (is-c, (z .is-k, tt))) tt (id⊢ 𝓤 _) (λ j ws. id⊢ 𝓤 _)
             (and-then ! (load ! (from ! (stop !)) (look ! 4 refl)) (and-then ! (load ! (from ! (stop !)) (look ! 22 refl)) (and-then ! (load ! (from ! (stop !)) (look ! 30 refl)) (no-more !)))) (λ j is-j h. land ! (from ! (stop !)) (init ! 44 refl (answer .typed 𝓤 H (𝓖 .A) W j is-j)) $ forget ! 4 refl $ forget ! 22 refl $
-            returns ! (look ! 44 refl) $ move ! (those 4 42) $ leaves W (answer .ty ∷ τs) ls (filled 0 (answer .val j) (held (some (bridge .val b) ∷ some (places .val w) ∷ some (byte .val f) ∷ some (word .val n) ∷ some (byte .val (z .k)) ∷ some (word .val (z .i)) ∷ [])))
+            returns ! (look ! 44 refl) $ move ! (those 4 42) $ leaves W (answer .ty ∷ τs) ls (filled 0 (answer .val j) (held (some (bridge .val b) ∷ some (bridges .val w) ∷ some (byte .val f) ∷ some (word .val n) ∷ some (byte .val (z .k)) ∷ some (word .val (z .i)) ∷ [])))
             (keep ! (0 ∷ 2 ∷ []) $ ends j is-j (rw h (judges c g)))))
 
-        -- the loop is left: the places are cleared where a row was refused
+        -- the loop is left: the array is cleared where a row was refused
         close : n ≤ z .i → Sq W (At z) (runs (𝓣 .C) (𝓣 .Λ) En body.t-10 (atRet En Post))
         unfolding maxRows
         close over =
             assigns ! (bin ! (load ! (from ! (stop !)) (look ! 30 refl)) (load ! (from ! (stop !)) (look ! 34 refl)) tt) (from ! (stop !)) (init ! 6 refl (tt, tt)) $ front ! $ branches ! (load ! (from ! (stop !)) (look ! 6 refl))
-            (λ other. forget ! 6 refl $ assigns-last ! (rep ! _ (load ! (from ! (stop !)) (look ! 38 refl))) (from ! (stop !)) (store ! 36 refl (places .typed 𝓤 H (𝓖 .A) W (replicate maxRows b) blanks-are)) $ exec ! (𝓣 .C) (𝓣 .Λ) En body.t-12 (atRet En Post) $
+            (λ other. forget ! 6 refl $ assigns-last ! (rep ! _ (load ! (from ! (stop !)) (look ! 38 refl))) (from ! (stop !)) (store ! 36 refl (bridges .typed 𝓤 H (𝓖 .A) W (replicate maxRows b) blanks-are)) $ exec ! (𝓣 .C) (𝓣 .Λ) En body.t-12 (atRet En Post) $
             finish (replicate maxRows b) blanks-are (λ c g. rw blank-b (cleared lent f n the-first the-n (z .i) (z .k) (z .l) (z .reached) over c g (differ (z .k) f other))))
             (λ same. skips ! $ exec ! (𝓣 .C) (𝓣 .Λ) En body.t-12 (atRet En Post) $ forget ! 6 refl $ finish (z .l) (z .is-l) (λ c g. kept lent f n the-first the-n (z .i) (z .k) (z .l) (z .reached) over c g (agree (z .k) f same)))
 
@@ -269,13 +269,13 @@ module _ {M : Type 1} (𝓤 : URA M) (H : Heap 𝓤) (𝓜 : Model 𝓤 H) (𝓖
       loop : Sq W (At starts) (runs (𝓣 .C) (𝓣 .Λ) En body.t-9 (atRet En Post))
       loop = front ! $ blocks ! $ loops ! 𝓣 (Nearer n walked) (Nearer-wf n walked) At turns starts
 
-    -- the places are empty, what start refuses before its first row, and how many rows it judges
+    -- the array is empty, what start refuses before its first row, and how many rows it judges
     walk : Sq W (stack (answer .ty ∷ τs) ls (held []) (‵ (flft κ₀ q₀) ∷ ‵ (ShrSlice (named 0) κ₀ u8 .own m (slice-vals m)) ∷ ‵ (flft κ q) ∷ ‵ (Rows κ y) ∷ [])) (runs (𝓣 .C) (𝓣 .Λ) En body.t-1 (atRet En Post))
     unfolding maxRows starts
     walk =
         move ! (those 42 4) $ invokes 𝓤 H 𝓜 𝓖 𝓡 code.env 0 [] bridge (blank.clauses 𝓤 H) tt tt tt (λ b. b ≡ unused) _ (then _ _) ! blank-def.routine code.calls-start·unused (blank-thm.met 𝓤 H 𝓜 𝓖 𝓡) tt tt (id⊢ 𝓤 _) (λ b ws. id⊢ 𝓤 _) (no-more !) (λ b is-b blank-b.
         land ! (from ! (stop !)) (init ! 38 refl (bridge .typed 𝓤 H (𝓖 .A) W b is-b)) $
-        assigns ! (rep ! _ (load ! (from ! (stop !)) (look ! 38 refl))) (from ! (stop !)) (init ! 36 refl (places .typed 𝓤 H (𝓖 .A) W (replicate maxRows b) (repeated-is bridge maxRows b is-b))) $
+        assigns ! (rep ! _ (load ! (from ! (stop !)) (look ! 38 refl))) (from ! (stop !)) (init ! 36 refl (bridges .typed 𝓤 H (𝓖 .A) W (replicate maxRows b) (repeated-is bridge maxRows b is-b))) $
         assigns ! (of-opd ! (load ! (from ! (fld ! refl (stop !))) (look-in ! 40 (sub ! 1 refl (whole !))))) (from ! (stop !)) (init ! 20 refl (tt, record { fits = is-y .0 .1 .0 })) $
         invokes 𝓤 H 𝓜 𝓖 𝓡 code.env 1 (shared-slice 0 tt u8 ∷ value word ∷ []) byte (first.clauses 𝓤 H) (κ₀, tt) (q₀, tt) (m, (length ys, tt)) (λ f. f ≡ firstNumber (m .now) (length ys)) _ (then _ _) ! first-def.routine code.calls-start·first-number (first-thm.met 𝓤 H 𝓜 𝓖 𝓡) (is-m, ((refl, is-y .0 .1 .0), tt)) tt (id⊢ 𝓤 _) (λ f ws. id⊢ 𝓤 _)
         (and-then ! (load ! (from ! (stop !)) (look ! 42 refl)) (and-then ! (load ! (from ! (stop !)) (look ! 20 refl)) (no-more !))) (λ f is-f the-first. land ! (from ! (stop !)) (init ! 34 refl (byte .typed 𝓤 H (𝓖 .A) W f is-f)) $

@@ -1,4 +1,4 @@
--- `locate::seek` meets its contract: by the test of the row.
+-- `locate::seek` meets its contract: by the test of the bridge.
 use mathlib.Core.Path.{sym, ap, _∙_}
 use mathlib.Core.Bool.{Bool}
 use native.Mathlib.Omega.{arith}
@@ -12,9 +12,6 @@ use Rattle.locate.specs.Turns.{turnBy}
 use Rattle.locate.proofs.seek.Statement.{statement}
 use Rattle.locate.proofs.seek.Tie as tie
 
-own-window-requires : tie.Need-own-window-requires
-own-window-requires c κs = search needs
-
 cast-t11 : tie.Need-cast-t11
 unfolding maxRows
 cast-t11 c = omega (arith, c .before .before .pre .0, c .before .before .pre .1)
@@ -22,13 +19,13 @@ cast-t11 c = omega (arith, c .before .before .pre .0, c .before .before .pre .1)
 place-of-requires : tie.Need-place-of-requires
 place-of-requires c κs =
     let a = c .before .before .args in
-    and-r (owns (a .s) (a .row)) (inWindow (a .address) (a .row)) (sym (c .before .own-window .ensures) ∙ c .if1 .taken)
+    and-r (owns (a .s) (a .bridge)) (inWindow (a .address) (a .bridge)) (sym (c .before .own-window .ensures) ∙ c .if1 .taken)
 
 returns : tie.Need-returns
 returns c =
     let a = c .before .before .before .args in
     ap (λ (x : Place). record { next = a .bridges; found = record { number = 0; place = x } }) (c .place-of .ensures)
-    ∙ ap (λ (q : Bool). turnBy q (a .p) (a .bridges) (a .row) (a .address)) (sym (c .before .if1 .taken) ∙ c .before .before .own-window .ensures)
+    ∙ ap (λ (q : Bool). turnBy q (a .p) (a .bridges) (a .bridge) (a .address)) (sym (c .before .if1 .taken) ∙ c .before .before .own-window .ensures)
 
 add-t13 : tie.Need-add-t13
 unfolding maxRows
@@ -37,7 +34,7 @@ add-t13 c = omega (arith, c .before .before .before .pre .0, c .before .before .
 returns-2 : tie.Need-returns-2
 returns-2 c =
     let a = c .before .before .before .args in
-    ap (λ (q : Bool). turnBy q (a .p) (a .bridges) (a .row) (a .address)) (sym (c .before .if1 .left) ∙ c .before .before .own-window .ensures)
+    ap (λ (q : Bool). turnBy q (a .p) (a .bridges) (a .bridge) (a .address)) (sym (c .before .if1 .left) ∙ c .before .before .own-window .ensures)
 
 pub seek-spec : {M : Type 1} → statement M
-seek-spec = tie.close (tie.spec own-window-requires cast-t11 place-of-requires returns add-t13 returns-2)
+seek-spec = tie.close (tie.spec (λ c κs. search needs) cast-t11 place-of-requires returns add-t13 returns-2)

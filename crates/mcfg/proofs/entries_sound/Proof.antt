@@ -36,9 +36,6 @@ add-loop c = omega arith
 entry-at-requires : tie.Need-entry-at-requires Inv-loop μ-loop
 entry-at-requires c κs = omega arith
 
-entry-sound-requires : tie.Need-entry-sound-requires Inv-loop μ-loop
-entry-sound-requires c κs = search needs
-
 returns : tie.Need-returns Inv-loop μ-loop
 returns c =
     let l = c .before .before .before .before .loop in
@@ -69,7 +66,7 @@ entries-sound-spec =
     loop-holds
     add-loop
     entry-at-requires
-    entry-sound-requires
+    (λ c κs. search needs)
     returns
     add-at
     loop-less

@@ -36,9 +36,6 @@ add-loop c = omega arith
 entry-at-requires : tie.Need-entry-at-requires Inv-loop μ-loop
 entry-at-requires c κs = omega arith
 
-lies-inside-requires : tie.Need-lies-inside-requires Inv-loop μ-loop
-lies-inside-requires c κs = search needs
-
 returns : tie.Need-returns Inv-loop μ-loop
 returns c =
     let s = c .before .before .before .before in
@@ -71,7 +68,7 @@ entry-of-spec =
     loop-holds
     add-loop
     entry-at-requires
-    lies-inside-requires
+    (λ c κs. search needs)
     returns
     add-at
     loop-less

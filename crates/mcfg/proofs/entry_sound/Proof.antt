@@ -5,17 +5,8 @@ use Rattle.mcfg.proofs.Entries.{ends-by}
 use Rattle.mcfg.proofs.entry_sound.Statement.{statement}
 use Rattle.mcfg.proofs.entry_sound.Tie as tie
 
-cast-result : tie.Need-cast-result
-cast-result c = search needs
-
-sub-result : tie.Need-sub-result
-sub-result c = search needs
-
-mul-result : tie.Need-mul-result
-mul-result c = search needs
-
 returns : tie.Need-returns
 returns c = rw (← ends-by (c .before .before .before .before .args .e .base) (c .before .before .before .before .args .e .«end_bus») (omega arith))
 
 pub entry-sound-spec : {M : Type 1} → statement M
-entry-sound-spec = tie.close (tie.spec cast-result sub-result mul-result returns)
+entry-sound-spec = tie.close (tie.spec (λ c. search needs) (λ c. search needs) (λ c. search needs) returns)

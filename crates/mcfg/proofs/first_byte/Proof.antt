@@ -5,18 +5,9 @@ use Rattle.mcfg.proofs.Entries.{in-order, window-end}
 use Rattle.mcfg.proofs.first_byte.Statement.{statement}
 use Rattle.mcfg.proofs.first_byte.Tie as tie
 
-cast-result : tie.Need-cast-result
-cast-result c = search needs
-
-mul-result : tie.Need-mul-result
-mul-result c = search needs
-
 add-result : tie.Need-add-result
 add-result c =
     let e = c .before .before .args .e in omega (arith, in-order e (c .before .before .pre), window-end e (c .before .before .pre))
 
-returns : tie.Need-returns
-returns c = search needs
-
 pub first-byte-spec : {M : Type 1} → statement M
-first-byte-spec = tie.close (tie.spec cast-result mul-result add-result returns)
+first-byte-spec = tie.close (tie.spec (λ c. search needs) (λ c. search needs) add-result (λ c. search needs))

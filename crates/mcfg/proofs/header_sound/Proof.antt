@@ -15,45 +15,21 @@ returns c = sym (short _ (omega arith))
 slice-aggregate-same : tie.Need-slice-aggregate-same
 slice-aggregate-same c = simp length-take (omega arith)
 
-slice-aggregate-same-2 : tie.Need-slice-aggregate-same-2
-slice-aggregate-same-2 c = search needs
-
-same-requires : tie.Need-same-requires
-same-requires c κs = search needs
-
 returns-2 : tie.Need-returns-2
 returns-2 c = sym (other-letters _ (sym (c .before .same .ensures) ∙ not-true _ (c .if2 .taken)))
-
-read32-requires : tie.Need-read32-requires
-read32-requires c κs = search needs
-
-cast-if3 : tie.Need-cast-if3
-cast-if3 c = search needs
 
 returns-3 : tie.Need-returns-3
 returns-3 c = sym (other-length _ (λ e. c .if3 .taken (c .before .read32 .ensures ∙ e)))
 
-shared-slice-read-if4 : tie.Need-shared-slice-read-if4
-shared-slice-read-if4 c = search needs
-
 returns-4 : tie.Need-returns-4
 returns-4 c = sym (other-revision _ (c .if4 .taken))
-
-sub-if5 : tie.Need-sub-if5
-sub-if5 c = search needs
 
 returns-5 : tie.Need-returns-5
 returns-5 c = sym (part-entry _ (λ e. c .if5 .taken (omega arith)))
 
-sub-if6 : tie.Need-sub-if6
-sub-if6 c = search needs
-
 returns-6 : tie.Need-returns-6
 unfolding maxEntries
 returns-6 c = sym (many-entries _ (omega arith))
-
-byte-sum-requires : tie.Need-byte-sum-requires
-byte-sum-requires c κs = search needs
 
 returns-7 : tie.Need-returns-7
 unfolding maxEntries
@@ -74,17 +50,17 @@ header-sound-spec =
     (tie.spec
     returns
     slice-aggregate-same
-    slice-aggregate-same-2
-    same-requires
+    (λ c. search needs)
+    (λ c κs. search needs)
     returns-2
-    read32-requires
-    cast-if3
+    (λ c κs. search needs)
+    (λ c. search needs)
     returns-3
-    shared-slice-read-if4
+    (λ c. search needs)
     returns-4
-    sub-if5
+    (λ c. search needs)
     returns-5
-    sub-if6
+    (λ c. search needs)
     returns-6
-    byte-sum-requires
+    (λ c κs. search needs)
     returns-7)

@@ -3,8 +3,5 @@ use borrow.Author.Needs.{needs}
 use Rattle.mcfg.proofs.lies_inside.Statement.{statement}
 use Rattle.mcfg.proofs.lies_inside.Tie as tie
 
-returns : tie.Need-returns
-returns c = search needs
-
 pub lies-inside-spec : {M : Type 1} → statement M
-lies-inside-spec = tie.close (tie.spec returns)
+lies-inside-spec = tie.close (tie.spec (λ c. search needs))

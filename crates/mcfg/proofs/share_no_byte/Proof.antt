@@ -3,18 +3,6 @@ use borrow.Author.Needs.{needs}
 use Rattle.mcfg.proofs.share_no_byte.Statement.{statement}
 use Rattle.mcfg.proofs.share_no_byte.Tie as tie
 
-last-byte-requires : tie.Need-last-byte-requires
-last-byte-requires c κs = search needs
-
-first-byte-requires : tie.Need-first-byte-requires
-first-byte-requires c κs = search needs
-
-last-byte-requires-2 : tie.Need-last-byte-requires-2
-last-byte-requires-2 c κs = search needs
-
-first-byte-requires-2 : tie.Need-first-byte-requires-2
-first-byte-requires-2 c κs = search needs
-
 returns : tie.Need-returns
 returns c =
     rw (c .before .before .before .last-byte .ensures, c .before .before .first-byte .ensures, c .before .last-byte2 .ensures, c .first-byte2 .ensures)
@@ -23,8 +11,8 @@ pub share-no-byte-spec : {M : Type 1} → statement M
 share-no-byte-spec =
     tie.close
     (tie.spec
-    last-byte-requires
-    first-byte-requires
-    last-byte-requires-2
-    first-byte-requires-2
+    (λ c κs. search needs)
+    (λ c κs. search needs)
+    (λ c κs. search needs)
+    (λ c κs. search needs)
     returns)

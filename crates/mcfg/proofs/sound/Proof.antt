@@ -7,15 +7,9 @@ use Rattle.mcfg.proofs.Header.{sound-parts}
 use Rattle.mcfg.proofs.sound.Statement.{statement}
 use Rattle.mcfg.proofs.sound.Tie as tie
 
-header-sound-requires : tie.Need-header-sound-requires
-header-sound-requires c κs = search needs
-
 returns : tie.Need-returns
 returns c =
     rw (sound-parts (now (c .before .before .before .args .m)), sym (c .before .header-sound .ensures) ∙ not-true _ (c .if1 .taken))
-
-entries-sound-requires : tie.Need-entries-sound-requires
-entries-sound-requires c κs = search needs
 
 returns-2 : tie.Need-returns-2
 returns-2 c =
@@ -41,9 +35,9 @@ pub sound-spec : {M : Type 1} → statement M
 sound-spec =
     tie.close
     (tie.spec
-    header-sound-requires
+    (λ c κs. search needs)
     returns
-    entries-sound-requires
+    (λ c κs. search needs)
     returns-2
     entries-apart-requires
     returns-3)

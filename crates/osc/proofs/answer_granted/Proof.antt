@@ -7,24 +7,6 @@ use borrow.Author.Needs.{needs}
 use Rattle.osc.proofs.answer_granted.Statement.{statement}
 use Rattle.osc.proofs.answer_granted.Tie as tie
 
-read32-requires : tie.Need-read32-requires
-read32-requires c κs = search needs
-
-read32-requires-2 : tie.Need-read32-requires-2
-read32-requires-2 c κs = search needs
-
-granted-bits-requires : tie.Need-granted-bits-requires
-granted-bits-requires c κs = search needs
-
-grant-status-requires : tie.Need-grant-status-requires
-grant-status-requires c κs = search needs
-
-write-granted-requires : tie.Need-write-granted-requires
-write-granted-requires c κs = search needs
-
-same-length : tie.Need-same-length
-same-length c = search needs
-
 returns : tie.Need-returns
 returns c =
     let a = c .before .before .before .before .before .before .before .before .before .before .args in
@@ -40,10 +22,10 @@ pub answer-granted-spec : {M : Type 1} → statement M
 answer-granted-spec =
     tie.close
     (tie.spec
-    read32-requires
-    read32-requires-2
-    granted-bits-requires
-    grant-status-requires
-    write-granted-requires
-    same-length
+    (λ c κs. search needs)
+    (λ c κs. search needs)
+    (λ c κs. search needs)
+    (λ c κs. search needs)
+    (λ c κs. search needs)
+    (λ c. search needs)
     returns)

@@ -6,9 +6,6 @@ use borrow.Author.Needs.{needs}
 use Rattle.osc.proofs.error_status.Statement.{statement}
 use Rattle.osc.proofs.error_status.Tie as tie
 
-is-uuid-requires : tie.Need-is-uuid-requires
-is-uuid-requires c κs = search needs
-
 returns : tie.Need-returns
 unfolding recognised
 returns c = simp (sym (c .before .before .is-uuid .ensures), c .before .if1 .taken, ne-eqb _ _ (c .if2 .taken))
@@ -28,4 +25,4 @@ unfolding recognised
 returns-4 c = simp (sym (c .before .is-uuid .ensures), c .if1 .left)
 
 pub error-status-spec : {M : Type 1} → statement M
-error-status-spec = tie.close (tie.spec is-uuid-requires returns returns-2 returns-3 returns-4)
+error-status-spec = tie.close (tie.spec (λ c κs. search needs) returns returns-2 returns-3 returns-4)

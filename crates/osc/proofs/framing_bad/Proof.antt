@@ -20,13 +20,10 @@ returns-3 c =
     let a = c .before .before .before .args in
     count-above (a .count) (now (a .uuid)) (now (a .caps)) (now (a .answer)) (c .before .before .if1 .left) (c .before .if2 .left) (c .if3 .taken)
 
-mul-bytes : tie.Need-mul-bytes
-mul-bytes c = search needs
-
 returns-4 : tie.Need-returns-4
 returns-4 c =
     let a = c .before .before .before .args in
     lengths-left (a .count) (now (a .uuid)) (now (a .caps)) (now (a .answer)) (c .before .before .if1 .left) (c .before .if2 .left) (c .if3 .left)
 
 pub framing-bad-spec : {M : Type 1} → statement M
-framing-bad-spec = tie.close (tie.spec returns returns-2 returns-3 mul-bytes returns-4)
+framing-bad-spec = tie.close (tie.spec returns returns-2 returns-3 (λ c. search needs) returns-4)

@@ -4,11 +4,8 @@ use borrow.Author.Needs.{needs}
 use Rattle.osc.proofs.is_query.Statement.{statement}
 use Rattle.osc.proofs.is_query.Tie as tie
 
-read32-requires : tie.Need-read32-requires
-read32-requires c κs = search needs
-
 returns : tie.Need-returns
 returns c = rw (c .read32 .ensures) (mask-test _ 0)
 
 pub is-query-spec : {M : Type 1} → statement M
-is-query-spec = tie.close (tie.spec read32-requires returns)
+is-query-spec = tie.close (tie.spec (λ c κs. search needs) returns)

@@ -22,16 +22,10 @@ module _ (c : tie.Else1) where
   long =
       three-dwords (entry .args .revision) (entry .args .count) (now (entry .args .uuid)) (now (entry .args .caps)) (now (entry .args .answer)) (entry .pre) right
 
-error-status-requires : tie.Need-error-status-requires
-error-status-requires c κs = search needs
-
 write-error-requires : tie.Need-write-error-requires
 write-error-requires c κs =
     let a = c .before .before .before .before .before .before in
     some-to-8 (a .args .count) (now (a .args .uuid)) (now (a .args .caps)) (now (a .args .answer)) (a .pre)
-
-same-length : tie.Need-same-length
-same-length c = search needs
 
 returns : tie.Need-returns
 returns c =
@@ -47,9 +41,6 @@ returns c =
 grant-requires : tie.Need-grant-requires
 grant-requires c κs = (long (c .before) .capabilities-are, long (c .before) .answer-is)
 
-same-length-2 : tie.Need-same-length-2
-same-length-2 c = search needs
-
 returns-2 : tie.Need-returns-2
 returns-2 c =
     let a = c .before .before .before .before .before .before .before .before .before .args in
@@ -63,10 +54,10 @@ pub respond-spec : {M : Type 1} → statement M
 respond-spec =
     tie.close
     (tie.spec
-    error-status-requires
+    (λ c κs. search needs)
     write-error-requires
-    same-length
+    (λ c. search needs)
     returns
     grant-requires
-    same-length-2
+    (λ c. search needs)
     returns-2)

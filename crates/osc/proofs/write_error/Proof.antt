@@ -16,14 +16,8 @@ Inv-loop answer₀ status at₀ answer at =
 abbrev μ-loop : tie.MeasureT-loop
 μ-loop answer₀ status at₀ answer at = 32 - at
 
-write32-requires : tie.Need-write32-requires Inv-loop μ-loop
-write32-requires c κs = search needs
-
 loop-holds : tie.Need-loop-holds Inv-loop μ-loop
 loop-holds c = (omega arith, refl, refl, ap (take 4) (c .before .before .write32 .ensures))
-
-write32-requires-2 : tie.Need-write32-requires-2 Inv-loop μ-loop
-write32-requires-2 c κs = search needs
 
 add-at : tie.Need-add-at Inv-loop μ-loop
 add-at c = omega arith
@@ -42,9 +36,6 @@ loop-again c =
     (λ w. (omega arith, omega arith, ap length (w .1) ∙ v .2, ap (take (l .loop .at + 4)) (w .1 ∙ all-right (l .loop .answer) x (length d) (l .loop .at) (omega arith) (omega arith) (v .2) (v .3))))
     (c .if1 .came)
 
-same-length : tie.Need-same-length Inv-loop μ-loop
-same-length c = search needs
-
 returns : tie.Need-returns Inv-loop μ-loop
 returns c =
     let l = c .before in
@@ -58,11 +49,11 @@ write-error-spec =
     (tie.spec
     Inv-loop
     μ-loop
-    write32-requires
+    (λ c κs. search needs)
     loop-holds
-    write32-requires-2
+    (λ c κs. search needs)
     add-at
     loop-less
     loop-again
-    same-length
+    (λ c. search needs)
     returns)

@@ -5,22 +5,10 @@ use borrow.Author.Needs.{needs}
 use Rattle.osc.proofs.write_granted.Statement.{statement}
 use Rattle.osc.proofs.write_granted.Tie as tie
 
-write32-requires : tie.Need-write32-requires
-write32-requires c κs = search needs
-
-write32-requires-2 : tie.Need-write32-requires-2
-write32-requires-2 c κs = search needs
-
-write32-requires-3 : tie.Need-write32-requires-3
-write32-requires-3 c κs = search needs
-
-same-length : tie.Need-same-length
-same-length c = search needs
-
 returns : tie.Need-returns
 returns c =
     three-written (now (c .before .before .before .before .before .before .before .before .before .before .before .before .before .args .answer)) _ _ _ (c .before .before .before .before .before .before .before .before .before .before .write32 .last .0) (c .before .before .before .before .before .before .write322 .last .0) _ (c .before .before .before .before .before .before .before .before .before .before .before .before .before .pre) (c .before .before .before .before .before .before .before .before .before .before .write32 .ensures) (c .before .before .before .before .before .before .write322 .ensures) (c .before .before .write323 .ensures)
 
 pub write-granted-spec : {M : Type 1} → statement M
 write-granted-spec =
-    tie.close (tie.spec write32-requires write32-requires-2 write32-requires-3 same-length returns)
+    tie.close (tie.spec (λ c κs. search needs) (λ c κs. search needs) (λ c κs. search needs) (λ c. search needs) returns)

@@ -6,14 +6,8 @@ use Rattle.records.proofs.Types.{by-type}
 use Rattle.records.proofs.has_record.Statement.{statement}
 use Rattle.records.proofs.has_record.Tie as tie
 
-returns : tie.Need-returns
-returns c = search needs
-
-returns-2 : tie.Need-returns-2
-returns-2 c = search needs
-
 returns-3 : tie.Need-returns-3
 returns-3 c = by-type (λ n. c .before .args .seen .«type_2» ≡ has (c .before .args .seen) n) (λ m. refl) _ (c .match .rest .0 .1) (c .match .rest .1)
 
 pub has-record-spec : {M : Type 1} → statement M
-has-record-spec = tie.close (tie.spec returns returns-2 returns-3)
+has-record-spec = tie.close (tie.spec (λ c. search needs) (λ c. search needs) returns-3)

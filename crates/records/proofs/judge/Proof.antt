@@ -15,12 +15,6 @@ returns-3 c =
     let e2 = c .before .before in
     simp (le-ltb 2 _ (e2 .before .before .if1 .left), le-leb 4 _ (e2 .if2 .left), ne-eqb _ 0 (c .if3 .taken))
 
-add-read32 : tie.Need-add-read32
-add-read32 c = search needs
-
-read32-requires : tie.Need-read32-requires
-read32-requires c κs = search needs
-
 returns-4 : tie.Need-returns-4
 returns-4 c =
     let e3 = c .before .before .before in
@@ -33,9 +27,6 @@ returns-4 c =
       ← c .before .read32 .ensures,
       ne-eqb _ 1 (c .if4 .taken),
     )
-
-record-sound-requires : tie.Need-record-sound-requires
-record-sound-requires c κs = search needs
 
 returns-5 : tie.Need-returns-5
 returns-5 c =
@@ -75,9 +66,9 @@ judge-spec =
     returns
     returns-2
     returns-3
-    add-read32
-    read32-requires
+    (λ c. search needs)
+    (λ c κs. search needs)
     returns-4
-    record-sound-requires
+    (λ c κs. search needs)
     returns-5
     returns-6)

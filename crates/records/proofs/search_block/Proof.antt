@@ -21,52 +21,31 @@ Inv-loop b type at₀ seen₀ found₀ at seen found = Left b type at seen found
 abbrev μ-loop : tie.MeasureT-loop
 μ-loop b type at₀ seen₀ found₀ at seen found = length b - at
 
--- at a field that was read whole: the block, the place, the field
+-- at a field that was read whole: the block, where it starts, the field
 abbrev block : tie.After-f Inv-loop μ-loop → List ℕ
 block c = now (c .before .before .before .before .before .before .before .before .before .args .b)
 
-abbrev place : tie.After-f Inv-loop μ-loop → ℕ
-place c = c .before .before .before .before .loop .at
+abbrev begins : tie.After-f Inv-loop μ-loop → ℕ
+begins c = c .before .before .before .before .loop .at
 
 abbrev field : tie.After-f Inv-loop μ-loop → Field
 field c = c .f .given .0 .0
 
-was-read : (c : tie.After-f Inv-loop μ-loop) → Whole (field c) ≡ fieldRead (block c) (place c)
+was-read : (c : tie.After-f Inv-loop μ-loop) → Whole (field c) ≡ fieldRead (block c) (begins c)
 was-read c = sym (c .f .given .1) ∙ c .before .before .read-field .ensures
 
-fits : (c : tie.After-f Inv-loop μ-loop) → (3 + field c .size + place c ≤ length (block c)) × (field c .start ≡ place c)
-fits c = field-fits (block c) (place c) (field c) (was-read c)
-
-too-long-requires : tie.Need-too-long-requires Inv-loop μ-loop
-too-long-requires c κs = search needs
-
-refusal-requires : tie.Need-refusal-requires Inv-loop μ-loop
-refusal-requires c κs = search needs
+fits : (c : tie.After-f Inv-loop μ-loop) → (3 + field c .size + begins c ≤ length (block c)) × (field c .start ≡ begins c)
+fits c = field-fits (block c) (begins c) (field c) (was-read c)
 
 returns : tie.Need-returns Inv-loop μ-loop
 returns c =
     let s = c .before .before .before .before in
     c .refusal .ensures ∙ too-long (now (s .args .b)) (s .args .record-type) (sym (c .before .before .too-long .ensures) ∙ c .before .if1 .taken)
 
-refusal-requires-2 : tie.Need-refusal-requires-2 Inv-loop μ-loop
-refusal-requires-2 c κs = search needs
-
 loop-holds : tie.Need-loop-holds Inv-loop μ-loop
 loop-holds c =
     let s = c .before .before .before .before in
     rw (c .refusal2 .ensures) (at-start (now (s .args .b)) (s .args .record-type) (sym (c .before .before .too-long .ensures) ∙ c .before .if1 .left))
-
-read-field-requires : tie.Need-read-field-requires Inv-loop μ-loop
-read-field-requires c κs = search needs
-
-enum-known-f : tie.Need-enum-known-f Inv-loop μ-loop
-enum-known-f c = search needs
-
-enum-told : tie.Need-enum-told Inv-loop μ-loop
-enum-told c = search needs
-
-refusal-requires-3 : tie.Need-refusal-requires-3 Inv-loop μ-loop
-refusal-requires-3 c κs = search needs
 
 returns-2 : tie.Need-returns-2 Inv-loop μ-loop
 returns-2 c =
@@ -76,18 +55,6 @@ returns-2 c =
 judge-requires : tie.Need-judge-requires Inv-loop μ-loop
 judge-requires c κs = omega (arith, fits (c .before))
 
-enum-told-2 : tie.Need-enum-told-2 Inv-loop μ-loop
-enum-told-2 c = search needs
-
-enum-told-3 : tie.Need-enum-told-3 Inv-loop μ-loop
-enum-told-3 c = search needs
-
-has-record-requires : tie.Need-has-record-requires Inv-loop μ-loop
-has-record-requires c κs = search needs
-
-refusal-requires-4 : tie.Need-refusal-requires-4 Inv-loop μ-loop
-refusal-requires-4 c κs = search needs
-
 returns-3 : tie.Need-returns-3 Inv-loop μ-loop
 returns-3 c =
     let j = c .before .before .before .before .before in
@@ -96,17 +63,8 @@ returns-3 c =
     c .refusal4 .ensures ∙ twice _ _ _ _ _ (i .before .loop .inv) (i .loop-test .taken) (field f) (was-read f)
     (sym (c .before .before .before .enum-told3 .given .1) ∙ j .judge .ensures) (sym (c .before .before .has-record .ensures) ∙ c .before .if2 .taken)
 
-mark-requires : tie.Need-mark-requires Inv-loop μ-loop
-mark-requires c κs = search needs
-
 chosen-requires : tie.Need-chosen-requires Inv-loop μ-loop
 chosen-requires c κs = omega (arith, fits (c .before .before .before .before .before .before .before))
-
-enum-told-4 : tie.Need-enum-told-4 Inv-loop μ-loop
-enum-told-4 c = search needs
-
-refusal-requires-5 : tie.Need-refusal-requires-5 Inv-loop μ-loop
-refusal-requires-5 c κs = search needs
 
 returns-4 : tie.Need-returns-4 Inv-loop μ-loop
 returns-4 c =
@@ -145,26 +103,26 @@ search-block-spec =
     (tie.spec
     Inv-loop
     μ-loop
-    too-long-requires
-    refusal-requires
+    (λ c κs. search needs)
+    (λ c κs. search needs)
     returns
-    refusal-requires-2
+    (λ c κs. search needs)
     loop-holds
-    read-field-requires
-    enum-known-f
-    enum-told
-    refusal-requires-3
+    (λ c κs. search needs)
+    (λ c. search needs)
+    (λ c. search needs)
+    (λ c κs. search needs)
     returns-2
     judge-requires
-    enum-told-2
-    enum-told-3
-    has-record-requires
-    refusal-requires-4
+    (λ c. search needs)
+    (λ c. search needs)
+    (λ c κs. search needs)
+    (λ c κs. search needs)
     returns-3
-    mark-requires
+    (λ c κs. search needs)
     chosen-requires
-    enum-told-4
-    refusal-requires-5
+    (λ c. search needs)
+    (λ c κs. search needs)
     returns-4
     add-at
     add-at-2

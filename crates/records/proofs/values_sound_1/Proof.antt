@@ -3,24 +3,6 @@ use borrow.Author.Needs.{needs}
 use Rattle.records.proofs.values_sound_1.Statement.{statement}
 use Rattle.records.proofs.values_sound_1.Tie as tie
 
-add-read32 : tie.Need-add-read32
-add-read32 c = search needs
-
-read32-requires : tie.Need-read32-requires
-read32-requires c κs = search needs
-
-add-read32-2 : tie.Need-add-read32-2
-add-read32-2 c = search needs
-
-read32-requires-2 : tie.Need-read32-requires-2
-read32-requires-2 c κs = search needs
-
-add-read32-3 : tie.Need-add-read32-3
-add-read32-3 c = search needs
-
-read32-requires-3 : tie.Need-read32-requires-3
-read32-requires-3 c κs = search needs
-
 returns : tie.Need-returns
 returns c = simp (c .before .before .before .before .read32 .ensures, c .before .before .read322 .ensures, c .read323 .ensures)
 
@@ -28,10 +10,10 @@ pub values-sound-1-spec : {M : Type 1} → statement M
 values-sound-1-spec =
     tie.close
     (tie.spec
-    add-read32
-    read32-requires
-    add-read32-2
-    read32-requires-2
-    add-read32-3
-    read32-requires-3
+    (λ c. search needs)
+    (λ c κs. search needs)
+    (λ c. search needs)
+    (λ c κs. search needs)
+    (λ c. search needs)
+    (λ c κs. search needs)
     returns)

@@ -12,28 +12,25 @@ use borrow.Author.Needs.{needs}
 use Rattle.rules.specs.Refusals.{firstOf}
 use Rattle.rules.specs.Records.{deciding, recordIn, recordRefusals, foundBy}
 use Rattle.rules.specs.declared.Field.{Field}
-use Rattle.rules.specs.declared.Found.{Found}
+use Rattle.rules.specs.declared.FoundAt.{FoundAt}
 use Rattle.slipwattle.specs.Boundary.{crossing}
 use Rattle.slipwattle.proofs.slipwattle_find_record.Statement.{statement}
 use Rattle.slipwattle.proofs.slipwattle_find_record.Tie as tie
 
 -- beside a refusal there are zeros
-zeros : (slot : List ℕ) (n : ℕ) (o : Option Field) (f : Found) → f ≡ foundBy n o → (f .number ≡ 0 → ⊥)
+zeros : (slot : List ℕ) (n : ℕ) (o : Option Field) (f : FoundAt) → f ≡ foundBy n o → (f .number ≡ 0 → ⊥)
     → record { number = f .number; «in_slot» = false; start = 0; size = 0 } ≡ crossing slot f
-zeros slot zero none f e z = absurd (z (ap (λ (g : Found). g .number) e))
-zeros slot zero (some x) f e z = absurd (z (ap (λ (g : Found). g .number) e))
+zeros slot zero none f e z = absurd (z (ap (λ (g : FoundAt). g .number) e))
+zeros slot zero (some x) f e z = absurd (z (ap (λ (g : FoundAt). g .number) e))
 zeros slot (suc k) o f e z =
-    let start : f .start ≡ 0 = ap (λ (g : Found). g .start) e in
-    let size : f .size ≡ 0 = ap (λ (g : Found). g .size) e in
+    let start : f .start ≡ 0 = ap (λ (g : FoundAt). g .start) e in
+    let size : f .size ≡ 0 = ap (λ (g : FoundAt). g .size) e in
     rw (ne-eqb (f .number) 0 z, start, size)
 
 -- a part that was found
-there : (slot : List ℕ) (f : Found) → f .number ≡ 0
+there : (slot : List ℕ) (f : FoundAt) → f .number ≡ 0
     → record { number = 0; «in_slot» = not (eqb (length slot) 0); start = f .start; size = f .size } ≡ crossing slot f
 there slot f z = rw z
-
-search-requires : tie.Need-search-requires
-search-requires c κs = search needs
 
 returns : tie.Need-returns
 returns c =
@@ -51,4 +48,4 @@ returns-2 c =
     there slot (f .search .result) (c .if1 .left) ∙ ap (crossing slot) (f .search .ensures)
 
 pub slipwattle-find-record-spec : {M : Type 1} → statement M
-slipwattle-find-record-spec = tie.close (tie.spec search-requires returns returns-2)
+slipwattle-find-record-spec = tie.close (tie.spec (λ c κs. search needs) returns returns-2)

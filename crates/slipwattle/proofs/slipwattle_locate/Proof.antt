@@ -1,7 +1,7 @@
--- `slipwattle::slipwattle_locate` meets its contract: a walk of its MIR, with a loop that copies a row of the lent table and calls `locate::seek` in each turn. The borrow is opened once, before the loop, and closed once, after it.
+-- `slipwattle::slipwattle_locate` meets its contract: a walk of its MIR, with a loop that copies a bridge of the lent table and calls `locate::seek` in each turn. The borrow is opened once, before the loop, and closed once, after it.
 --     State            what a turn starts from: the search, and the facts of it. It is the loop's variant too: a turn ends nearer to the end (`Nearer`)
 --     At               the context at the loop's test
---     turns            a turn: the test, then the row is copied and `seek` is called, or the loop is left and the rest runs
+--     turns            a turn: the test, then the bridge is copied and `seek` is called, or the loop is left and the rest runs
 -- Assumes nothing.
 use mathlib.Core.Path.{_≡_, refl, subst, sym}
 use Prim.Native.Nat.{ℕ, _*_, _-_, _≤_, _<_}
@@ -20,12 +20,12 @@ use Rattle.rules.specs.Calls.{outcome, located, locate, step}
 use Rattle.rules.specs.declared.Table.{Table}
 use Rattle.rules.specs.declared.SessionNumber.{SessionNumber}
 use Rattle.rules.proofs.Table as T
-use Rattle.locate.specs.Turns.{atFirst, afterRow}
-use Rattle.locate.specs.declared.Located.{Located}
+use Rattle.locate.specs.Turns.{atFirst, afterBridge}
+use Rattle.rules.specs.declared.Located.{Located}
 use Rattle.locate.specs.declared.Search.{Search}
 use Rattle.locate.proofs.Seeking.{Seeking, seek-first, seek-on, seek-near, seek-end}
-use Rattle.locate.proofs.Located as L
-use Rattle.locate.proofs.Located.Laws as L′
+use Rattle.rules.proofs.Located as L
+use Rattle.rules.proofs.Located.Laws as L′
 use Rattle.locate.proofs.Search as Q
 use Rattle.locate.proofs.Search.Laws as Q′
 use Rattle.locate.proofs.begin as begin
@@ -42,7 +42,7 @@ use Rattle.walks.proofs.Contracts.{machine}
 use Rattle.walks.proofs.Params.{Param, value, outer, tys, all-typed}
 use Rattle.walks.proofs.Calls.{then, last, invokes}
 use Rattle.walks.proofs.Borrowed.{Lent, on-borrow, exits}
-use Rattle.lent.proofs.Ways.{bridge, session, ref-ty, size, place-fits, count-in, row-look}
+use Rattle.lent.proofs.Ways.{bridge, session, ref-ty, size, bridge-fits, count-in, bridge-look}
 use Rattle.slipwattle.proofs.slipwattle_locate.Key as key
 use Rattle.slipwattle.proofs.slipwattle_locate as own
 use Rattle.slipwattle.proofs.slipwattle_locate.Statement as stated
@@ -67,7 +67,7 @@ record State (h : Table) (s : SessionNumber) (a : ℕ) : Type 0 where
   good : Is Q.the-row p (search .val p ∷ [])
   is : Seeking h s a p
 
--- the rows that were looked at
+-- the bridges that were looked at
 abbrev looked : (h : Table) (s : SessionNumber) (a : ℕ) → State h s a → ℕ
 looked h s a x = x .p .next
 
@@ -111,10 +111,10 @@ module _ {M : Type 1} (𝓤 : URA M) (H : Heap 𝓤) (𝓜 : Model 𝓤 H) (𝓖
     fields = LL.owed Q.the-type Q′.the-laws p _ (z .good)
 
     -- the state after a turn
-    next : i < h .count → (p′ : Search) → Is (search .row) p′ (search .val p′ ∷ []) → p′ ≡ afterRow p (h .count) (bridgeAt h i) s a → State h s a
+    next : i < h .count → (p′ : Search) → Is (search .row) p′ (search .val p′ ∷ []) → p′ ≡ afterBridge p (h .count) (bridgeAt h i) s a → State h s a
     next l p′ good e = record { p = p′; good = good; is = subst (Seeking h s a) (sym e) (seek-on h s a sound p (z .is) l) }
 
-    sooner : (l : i < h .count) (p′ : Search) (good : Is (search .row) p′ (search .val p′ ∷ [])) (e : p′ ≡ afterRow p (h .count) (bridgeAt h i) s a) → Nearer (h .count) (looked h s a) (next l p′ good e) z
+    sooner : (l : i < h .count) (p′ : Search) (good : Is (search .row) p′ (search .val p′ ∷ [])) (e : p′ ≡ afterBridge p (h .count) (bridgeAt h i) s a) → Nearer (h .count) (looked h s a) (next l p′ good e) z
     unfolding next
     sooner l p′ good e = subst (λ (y : Search). h .count - y .next < h .count - i) (sym e) (seek-near h s a sound p (z .is) l)
 
@@ -123,13 +123,13 @@ module _ {M : Type 1} (𝓤 : URA M) (H : Heap 𝓤) (𝓜 : Model 𝓤 H) (𝓖
     turns =
         assigns ! (bin ! (load ! (from ! (fld ! refl (stop !))) (look-in ! 16 (sub ! 0 refl (whole !)))) (load ! (from ! (stop !)) (look ! 18 refl)) tt) (from ! (stop !)) (init ! 12 refl (tt, tt)) $ first ! $ branches ! (load ! (from ! (stop !)) (look ! 12 refl))
         (λ less. let l = ltb→lt _ _ less in let inside = in-array i (h .count) l (sound .few) in skips ! $ exec ! (𝓣 .C) (𝓣 .Λ) En (past 2 body.turn-1) (anyQ (Turned z)) $
-        -- row i's place, and the row
+        -- where bridge i lies, and the bridge
         assigns ! (of-opd ! (load ! (from ! (fld ! refl (stop !))) (look-in ! 16 (sub ! 0 refl (whole !))))) (from ! (stop !)) (init ! 14 refl (word .typed 𝓤 H (𝓖 .A) W i (fields .0))) $
-        assigns ! (bin ! (load ! (from ! (stop !)) (look ! 14 refl)) (lit ! tt) (place-fits i inside)) (from ! (stop !)) (init ! 10 refl (tt, place-fits i inside)) $
+        assigns ! (bin ! (load ! (from ! (stop !)) (look ! 14 refl)) (lit ! tt) (bridge-fits i inside)) (from ! (stop !)) (init ! 10 refl (tt, bridge-fits i inside)) $
         assigns ! (addr ! (from ! (hop ! (look ! 24 refl) (fld ! refl (stop !))))) (from ! (stop !)) (init ! 8 refl (tt, tt)) $
         assigns ! (bin ! (load ! (from ! (stop !)) (look ! 8 refl)) (load ! (from ! (stop !)) (look ! 10 refl)) tt) (from ! (stop !)) (init ! 6 refl (tt, tt)) $
-        take ! bridge (row-look W h b o i inside) (λ is-r. assigns ! (of-opd ! (load ! (from ! (hop ! (look ! 7 refl) (stop !))) (look-raw ! 0 refl))) (from ! (stop !)) (init ! 5 refl (bridge .typed 𝓤 H (𝓖 .A) W (bridgeAt h i) is-r)) $ put ! bridge (row-look W h b o i inside) is-r $
-        invokes 𝓤 H 𝓜 𝓖 𝓡 code.env 0 (value search ∷ value word ∷ value bridge ∷ value session ∷ value word ∷ []) search (seek.clauses 𝓤 H) tt tt (p, (h .count, (bridgeAt h i, (s, (a, tt))))) (λ p′. p′ ≡ afterRow p (h .count) (bridgeAt h i) s a) _ (last _) ! seek-def.routine code.calls-locate·seek (seek-thm.met 𝓤 H 𝓜 𝓖 𝓡) (z .good, (is-n, (is-r, (is-s, (is-a, tt))))) tt (factI 𝓤 _ (emp 𝓤) (l, sound .few)) (λ p′ ws. id⊢ 𝓤 _)
+        take ! bridge (bridge-look W h b o i inside) (λ is-r. assigns ! (of-opd ! (load ! (from ! (hop ! (look ! 7 refl) (stop !))) (look-raw ! 0 refl))) (from ! (stop !)) (init ! 5 refl (bridge .typed 𝓤 H (𝓖 .A) W (bridgeAt h i) is-r)) $ put ! bridge (bridge-look W h b o i inside) is-r $
+        invokes 𝓤 H 𝓜 𝓖 𝓡 code.env 0 (value search ∷ value word ∷ value bridge ∷ value session ∷ value word ∷ []) search (seek.clauses 𝓤 H) tt tt (p, (h .count, (bridgeAt h i, (s, (a, tt))))) (λ p′. p′ ≡ afterBridge p (h .count) (bridgeAt h i) s a) _ (last _) ! seek-def.routine code.calls-locate·seek (seek-thm.met 𝓤 H 𝓜 𝓖 𝓡) (z .good, (is-n, (is-r, (is-s, (is-a, tt))))) tt (factI 𝓤 _ (emp 𝓤) (l, sound .few)) (λ p′ ws. id⊢ 𝓤 _)
         (and-then ! (load ! (from ! (stop !)) (look ! 16 refl)) (and-then ! (load ! (from ! (stop !)) (look ! 18 refl)) (and-then ! (load ! (from ! (stop !)) (look ! 4 refl)) (and-then ! (load ! (from ! (stop !)) (look ! 22 refl)) (and-then ! (load ! (from ! (stop !)) (look ! 20 refl)) (no-more !)))))) (λ p′ good e.
         land-last ! (from ! (stop !)) (store ! 16 refl (search .typed 𝓤 H (𝓖 .A) W p′ good)) $ forget ! 4 refl $ forget ! 6 refl $ forget ! 8 refl $ forget ! 10 refl $ forget ! 12 refl $ forget ! 14 refl $
         again ! (Nearer (h .count) (looked h s a)) At z (next l p′ good e) (sooner l p′ good e))))

@@ -1,6 +1,6 @@
 -- `slipwattle_start` meets its contract: a walk of its MIR. The rows are judged, and the table is assembled of what that gives.
 -- Assumes nothing.
-use mathlib.Core.Path.{_≡_, refl, ap, _∙_}
+use mathlib.Core.Path.{_≡_, refl}
 use Prim.Native.Nat.{ℕ}
 use mathlib.Core.List.{List, [], _∷_, _++_}
 use mathlib.Core.Option.{none, some}
@@ -10,13 +10,12 @@ use Rattle.rules.specs.Limits.{maxRows}
 use Rattle.rules.specs.Start.{StartInput, startNumber, startTable}
 use Rattle.rules.specs.declared.BridgeRow.{BridgeRow}
 use Rattle.start.specs.Admission.{Judges, startedWith}
-use Rattle.start.specs.declared.Judged.{Judged}
-use Rattle.start.specs.declared.Started.{Started}
+use Rattle.rules.specs.declared.Started.{Started}
 use Rattle.rules.proofs.BridgeRow as R
 use Rattle.start.proofs.Judged as J
 use Rattle.start.proofs.Judged.Laws as J′
-use Rattle.start.proofs.Started as S
-use Rattle.start.proofs.Started.Laws as S′
+use Rattle.rules.proofs.Started as S
+use Rattle.rules.proofs.Started.Laws as S′
 use Rattle.start.proofs.Judging.{judged-start}
 use Rattle.start.proofs.assemble as assemble
 use Rattle.start.proofs.assemble.Symbol as assemble-def
@@ -24,7 +23,7 @@ use Rattle.start.proofs.assemble.Met as assemble-thm
 use Rattle.lent_rows.proofs.judge as judge
 use Rattle.lent_rows.proofs.judge.Symbol as judge-def
 use Rattle.lent_rows.proofs.judge.Met as judge-thm
-use Rattle.walks.proofs.Frame.{Blocks, envs, stack, filled, those, enters, leaves}
+use Rattle.walks.proofs.Frame.{Blocks, envs, stack, those, enters, leaves}
 use Rattle.walks.proofs.Values.{Value, struct}
 use Rattle.walks.proofs.Contracts.{machine}
 use Rattle.walks.proofs.Params.{Param, value, shared-slice, inner, tys, all-typed}

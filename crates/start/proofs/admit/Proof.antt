@@ -14,20 +14,11 @@ judged : (c : tie.After-row-sound)
     ≡ (rowSound (entries (now (c .before .before .before .args .mcfg))) (c .before .before .before .args .row) && c .before .before .before .args .apart)
 judged c = rw (c .row-sound .ensures, c .before .entry-of .ensures .0)
 
-entry-of-requires : tie.Need-entry-of-requires
-entry-of-requires c κs = search needs
-
-row-sound-requires : tie.Need-row-sound-requires
-row-sound-requires c κs = search needs
-
 returns : tie.Need-returns
 returns c = simp (sym (judged (c .before .before)) ∙ c .before .if1 .taken, c .before .before .before .entry-of .ensures .1) (refl, refl)
-
-unused-requires : tie.Need-unused-requires
-unused-requires c κs = search needs
 
 returns-2 : tie.Need-returns-2
 returns-2 c = rw (sym (judged (c .before .before)) ∙ c .before .if1 .left) (refl, c .unused .ensures)
 
 pub admit-spec : {M : Type 1} → statement M
-admit-spec = tie.close (tie.spec entry-of-requires row-sound-requires returns unused-requires returns-2)
+admit-spec = tie.close (tie.spec (λ c κs. search needs) (λ c κs. search needs) returns (λ c κs. search needs) returns-2)

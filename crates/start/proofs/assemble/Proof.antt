@@ -3,11 +3,8 @@ use borrow.Author.Needs.{needs}
 use Rattle.start.proofs.assemble.Statement.{statement}
 use Rattle.start.proofs.assemble.Tie as tie
 
-table-with-requires : tie.Need-table-with-requires
-table-with-requires c κs = search needs
-
 returns : tie.Need-returns
 returns c = rw (c .table-with .ensures)
 
 pub assemble-spec : {M : Type 1} → statement M
-assemble-spec = tie.close (tie.spec table-with-requires returns)
+assemble-spec = tie.close (tie.spec (λ c κs. search needs) returns)

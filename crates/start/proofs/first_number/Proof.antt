@@ -7,9 +7,6 @@ use Rattle.rules.specs.Limits.{maxRows}
 use Rattle.start.proofs.first_number.Statement.{statement}
 use Rattle.start.proofs.first_number.Tie as tie
 
-sound-requires : tie.Need-sound-requires
-sound-requires c κs = search needs
-
 returns : tie.Need-returns
 returns c = rw (sym (c .before .sound .ensures) ∙ not-true _ (c .if1 .taken))
 
@@ -24,4 +21,4 @@ returns-3 c =
     rw (sym (c .before .before .sound .ensures) ∙ not-false _ (c .before .if1 .left), le-leb (c .before .before .before .before .args .count) maxRows (omega arith))
 
 pub first-number-spec : {M : Type 1} → statement M
-first-number-spec = tie.close (tie.spec sound-requires returns returns-2 returns-3)
+first-number-spec = tie.close (tie.spec (λ c κs. search needs) returns returns-2 returns-3)

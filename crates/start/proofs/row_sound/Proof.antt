@@ -4,12 +4,9 @@ use borrow.Author.Needs.{needs}
 use Rattle.start.proofs.row_sound.Statement.{statement}
 use Rattle.start.proofs.row_sound.Tie as tie
 
-permissible-requires : tie.Need-permissible-requires
-permissible-requires c κs = search needs
-
 returns : tie.Need-returns
 unfolding maxOwner
 returns c = rw (c .before .before .before .before .before .before .before .before .permissible .ensures)
 
 pub row-sound-spec : {M : Type 1} → statement M
-row-sound-spec = tie.close (tie.spec permissible-requires returns)
+row-sound-spec = tie.close (tie.spec (λ c κs. search needs) returns)

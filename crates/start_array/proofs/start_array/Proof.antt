@@ -12,7 +12,7 @@ use lib.Seq.{length-take-le}
 use Rattle.walks.proofs.Kit.{URA, fullShare, Ty, named, erased, imm, tyRef, Val, vptr, SProp, emp, id⊢, Lft, Share, flft, fat, Model, Heap, Env, factI, GhostRules, Running, Given, Sq, prop, ‵, runs, atRet, _$_, !, move, keep, rewrite, agg, look, init, stop, from, load, of-opd, addr, and-then, no-more, assigns, land, returns, u8, Is, pointee, RefT, sliceTy, sliceVal, ShrSlice, Room, slice-vals}
 use Rattle.rules.specs.Limits.{maxRows}
 use Rattle.rules.specs.declared.BridgeRow.{BridgeRow}
-use Rattle.start.specs.declared.Started.{Started}
+use Rattle.rules.specs.declared.Started.{Started}
 use Rattle.rules.specs.Start.{StartInput, startNumber, startTable}
 use Rattle.rules.proofs.BridgeRow as R
 use Rattle.walks.proofs.Frame.{Blocks, envs, stack, those, enters, leaves}
@@ -22,8 +22,8 @@ use Rattle.walks.proofs.Params.{Param, value, shared-slice, inner, tys, all-typ
 use Rattle.walks.proofs.Calls.{then, invokes}
 use Rattle.walks.proofs.Shared.{on-shared}
 use Rattle.rules.proofs.BridgeRow.Laws as R′
-use Rattle.start.proofs.Started as S
-use Rattle.start.proofs.Started.Laws as S′
+use Rattle.rules.proofs.Started as S
+use Rattle.rules.proofs.Started.Laws as S′
 use Rattle.start_array.proofs.Front.{take-min, first, lends-first, first-back}
 use Rattle.start_array.proofs.rows_in_array as rows
 use Rattle.start_array.proofs.rows_in_array.Symbol as rows-def
