@@ -354,16 +354,16 @@ static void places_have_limits(const slipwattle_table *t) {
 static void buses_have_limits(void) {
     slipwattle_bridge_row from_0 = row(1, 0, 255), from_1 = row(1, 1, 255), to_254 = row(1, 0, 254);
     slipwattle_started s = start(&from_0, 1, true);
-    CHECK(place(&s.table, 0, 0, 0, 0, 1) == 0);
-    CHECK(place(&s.table, 255, 0, 0, 0, 1) == 0);
-    CHECK(place(&s.table, 256, 0, 0, 0, 1) == 4);
-    CHECK(place(&s.table, 0xFFFFFFFFu, 0, 0, 0, 1) == 4);
+    CHECK(refusal_at(&s.table, 0, 0, 0, 0, 1) == 0);
+    CHECK(refusal_at(&s.table, 255, 0, 0, 0, 1) == 0);
+    CHECK(refusal_at(&s.table, 256, 0, 0, 0, 1) == 4);
+    CHECK(refusal_at(&s.table, 0xFFFFFFFFu, 0, 0, 0, 1) == 4);
     s = start(&from_1, 1, true);
-    CHECK(place(&s.table, 0, 0, 0, 0, 1) == 4);
-    CHECK(place(&s.table, 1, 0, 0, 0, 1) == 0);
+    CHECK(refusal_at(&s.table, 0, 0, 0, 0, 1) == 4);
+    CHECK(refusal_at(&s.table, 1, 0, 0, 0, 1) == 0);
     s = start(&to_254, 1, true);
-    CHECK(place(&s.table, 254, 0, 0, 0, 1) == 0);
-    CHECK(place(&s.table, 255, 0, 0, 0, 1) == 4);
+    CHECK(refusal_at(&s.table, 254, 0, 0, 0, 1) == 0);
+    CHECK(refusal_at(&s.table, 255, 0, 0, 0, 1) == 4);
 }
 
 /* Refusals 1, 2, 5, 4: of two that apply, the first listed. */
