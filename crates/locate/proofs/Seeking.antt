@@ -37,7 +37,7 @@ module _ (p : Bridge → Bool) (l : List Bridge) (i : ℕ) where
   find-end : length l ≤ i → find p (drop i l) i ≡ none
   find-end h = rw (drop-of-length-le l {i = i} h)
 
--- what the search gives: the bridge that the bridges ahead have, else what was found so far
+-- what the search gives: the bridge found among those ahead, else what was found so far
 abbrev pub gives : Table → ℕ → Located → Option ℕ → Outcome
 gives t a f none = outcome (f .number) (located (f .place)) []
 gives t a f (some i) = outcome 0 (located (placeOf i (bridgeAt t i) a)) []
