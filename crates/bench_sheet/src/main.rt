@@ -1,4 +1,9 @@
 // The bench sheet of document 01, line by line in its order, through the calls. P permitted, H held, R requested, G granted.
+use print::bytes;
+use print::decimal;
+use print::end;
+use print::hex;
+use print::text;
 use rules::BridgeNumber;
 use rules::SessionNumber;
 use rules::Table;
@@ -18,45 +23,9 @@ const OR: u32 = 0x6;
 // Tag 0, length 3, and 3 bytes: the field ends where the block does.
 const LENGTH_3: [u8; 6] = *b"\x00\x03\x00\x01\x00\x00";
 
-fn text(b: &[u8]) {
-    io::write_all(1, b);
-}
-
-fn decimal(before: &[u8], n: u64) {
-    text(before);
-    io::print_decimal(1, n);
-}
-
-fn hex(before: &[u8], n: u64, width: usize) {
-    text(before);
-    text(b"0x");
-    io::print_hex(1, n, width);
-}
-
-fn byte(n: u8) {
-    io::print_hex(1, n as u64, 2);
-}
-
-// Bytes as stored, in fours.
-fn bytes(before: &[u8], b: &[u8]) {
-    text(before);
-    let mut i = 0;
-    while i < b.len() {
-        if (i != 0) & (i % 4 == 0) {
-            text(b" ");
-        }
-        byte(b[i]);
-        i += 1;
-    }
-}
-
 // A bit set or a register.
 fn bits(before: &[u8], n: u32, width: usize) {
     hex(before, n as u64, width);
-}
-
-fn end() {
-    text(b"\n");
 }
 
 // Bridge 0 of session 1, with these permitted bits. Entry and row begin at bus 1, so that an address would show a start bus subtracted.
@@ -66,25 +35,6 @@ fn begin(permitted: u32) -> Table
     let rows = [fixtures::row(1, 1, 255, permitted); start_array::LIST_ROWS];
     let started = fixtures::start(BASE, 1, 255, 1, rows, 1);
     started.table
-}
-
-// The table after session 1's taking call for these bits on bridge 0, with no support bit.
-fn take(t: Table, control: u32) -> Table
-    requires { ⌜ Sound t ⌝ }
-    ensures { λ r. ⌜ Sound r ⌝ }
-{
-    let caps = fixtures::request(0, 0, control);
-    let mut answer = [0xaa; 12];
-    let done = fixtures::osc(
-        t,
-        SessionNumber(1),
-        BridgeNumber(0),
-        3,
-        &fixtures::UUID,
-        &caps,
-        &mut answer,
-    );
-    done.table
 }
 
 // What bridge 0 holds, by report.
@@ -104,29 +54,31 @@ fn query() {
         t,
         SessionNumber(1),
         BridgeNumber(0),
+        1,
         3,
         &fixtures::UUID,
         &caps,
         &mut answer,
     );
-    bytes(b"query ", &caps);
+    bytes(b"query", &caps);
     text(b", P 0x1f");
     held(t);
     decimal(b": number ", done.number as u64);
-    bytes(b", answer ", &answer);
+    bytes(b", answer", &answer);
     held(done.table);
     end();
 }
 
 // A taking call for `requested`, once `first` was taken.
 fn grant(permitted: u32, first: u32, requested: u32) {
-    let t = take(begin(permitted), first);
+    let t = fixtures::take(begin(permitted), 0, first);
     let caps = fixtures::request(0, 0, requested);
     let mut answer = [0xaa; 12];
     let done = fixtures::osc(
         t,
         SessionNumber(1),
         BridgeNumber(0),
+        1,
         3,
         &fixtures::UUID,
         &caps,
@@ -194,7 +146,7 @@ fn entries(count: usize)
 
 // Uncorrectable Error Mask, register 0, where bits 0 and 4 are held and AER is not.
 fn register() {
-    let t = take(begin(0x1f), 0x11);
+    let t = fixtures::take(begin(0x1f), 0, 0x11);
     let block = fixtures::settings(AND, OR);
     let current = [CURRENT; 8];
     let slot = [0u8; 0];
@@ -232,6 +184,7 @@ fn count(n: u32, caps: &[u8], answer: &mut [u8]) {
         begin(0x1f),
         SessionNumber(1),
         BridgeNumber(0),
+        1,
         n,
         &fixtures::UUID,
         caps,
@@ -239,7 +192,7 @@ fn count(n: u32, caps: &[u8], answer: &mut [u8]) {
     );
     decimal(b"Count ", n as u64);
     decimal(b": number ", done.number as u64);
-    bytes(b", answer ", answer);
+    bytes(b", answer", answer);
     end();
 }
 

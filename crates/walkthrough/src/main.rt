@@ -1,4 +1,7 @@
 // The lesson: a class and a plant on one table of host bridges. One line for each call: plain words, then what was asked and what came.
+use print::decimal;
+use print::hex;
+use print::text;
 use rules::BridgeNumber;
 use rules::BridgeRow;
 use rules::SessionNumber;
@@ -17,21 +20,6 @@ const CURRENT: u32 = 0x2110;
 const AND: u32 = 0xffff_fff0;
 
 const OR: u32 = 0x6;
-
-fn text(b: &[u8]) {
-    io::write_all(1, b);
-}
-
-fn decimal(before: &[u8], n: u64) {
-    text(before);
-    io::print_decimal(1, n);
-}
-
-fn hex(before: &[u8], n: u64, width: usize) {
-    text(before);
-    text(b"0x");
-    io::print_hex(1, n, width);
-}
 
 // A bit set or a register.
 fn bits(before: &[u8], n: u32, width: usize) {
@@ -145,7 +133,7 @@ fn osc(
     }
     let caps = fixtures::request(status, ALL, control);
     let mut answer = [0; 12];
-    let done = fixtures::osc(t, s, n, 3, &fixtures::UUID, &caps, &mut answer);
+    let done = fixtures::osc(t, s, n, 1, 3, &fixtures::UUID, &caps, &mut answer);
     came(done.number);
     let granted = words::read32(&answer, 8);
     if done.number == 0 {

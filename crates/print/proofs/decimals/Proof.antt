@@ -1,18 +1,18 @@
--- `bench_sheet::bytes` is safe and ends: one turn for each byte.
+-- `print::decimals` is safe and ends: one turn for each number.
 use Prim.Native.Nat.{_≤_, _-_}
 use lib.ListN.{length}
 use borrow.Author.Needs.{needs}
-use Rattle.bench_sheet.proofs.bytes.Statement.{statement}
-use Rattle.bench_sheet.proofs.bytes.Tie as tie
+use Rattle.print.proofs.decimals.Statement.{statement}
+use Rattle.print.proofs.decimals.Tie as tie
 
 abbrev Inv-loop : tie.InvT-loop
-Inv-loop before b i₀ t4 i = i ≤ length b
+Inv-loop words n i₀ i = i ≤ length n
 
 abbrev μ-loop : tie.MeasureT-loop
-μ-loop before b i₀ t4 i = length b - i
+μ-loop words n i₀ i = length n - i
 
-pub bytes-spec : {M : Type 1} → statement M
-bytes-spec =
+pub decimals-spec : {M : Type 1} → statement M
+decimals-spec =
     tie.close
     (tie.spec
     Inv-loop
@@ -20,7 +20,6 @@ bytes-spec =
     (λ c κs. search needs)
     (λ c. search needs)
     (λ c. search needs)
-    (λ c κs. search needs)
     (λ c. search needs)
     (λ c κs. search needs)
     (λ c. search needs)
