@@ -1,0 +1,9 @@
+// The limits of document 01, section by section in its order: for each condition a call that just misses it and one that just meets it. One line for each call: what it is given,
+// the number that came, and what came beside it. A line in brackets names what the numbers of the lines after it are.
+
+fn main() {
+    start_limits::lines();
+    place_limits::lines();
+    osc_limits::lines();
+    record_limits::lines();
+}

@@ -1,0 +1,133 @@
+// Granting control. Session 1 calls on bridge 0.
+use crate::holds;
+use rules::BridgeNumber;
+use rules::SessionNumber;
+
+// A call, once the bits of `held` were taken.
+fn sent(permitted: u32, held: u32, status: u32, support: u32, control: u32) {
+    print::hexes(
+        b"sent",
+        &[
+            permitted as u64,
+            held as u64,
+            status as u64,
+            support as u64,
+            control as u64,
+        ],
+    );
+    let t = fixtures::take(fixtures::three_bridges(permitted), 0, held);
+    let mut answer = [0xaa; 12];
+    let after = fixtures::right_call(t, status, support, control, &mut answer);
+    print::bytes(b": answer", &answer);
+    holds(after);
+}
+
+// A taking call.
+fn grant(permitted: u32, held: u32, requested: u32) {
+    sent(permitted, held, 0, 0, requested);
+}
+
+// A reset, once bits 0 and 4 were taken with support bit 0, and bit 1 with support bit 1.
+fn reset(session: u8, bridge: u8) {
+    print::decimals(b"reset", &[session as u64, bridge as u64]);
+    let t = fixtures::take(
+        fixtures::take(fixtures::three_bridges(0x1f), 0x01, 0x11),
+        0x02,
+        0x02,
+    );
+    let done = fixtures::reset(t, SessionNumber(session), BridgeNumber(bridge));
+    print::came(done.number);
+    holds(done.table);
+}
+
+// A report, once bits 0 and 4 were taken with support bit 0.
+fn report(session: u8, bridge: u8) {
+    print::decimals(b"report", &[session as u64, bridge as u64]);
+    let t = fixtures::take(fixtures::three_bridges(0x1f), 0x01, 0x11);
+    let r = bridges::report(t, SessionNumber(session), BridgeNumber(bridge));
+    print::came(r.number);
+    print::hexes(b",", &[r.holding.held as u64, r.holding.supported as u64]);
+    print::end();
+}
+
+// Bits 1 and 4 need no other; bits above 4 are never granted.
+fn alone() {
+    print::text(b"(sent: permitted, held; status, support and control DWORD)\n");
+    grant(0x02, 0, 0x02);
+    grant(0x1d, 0, 0x02);
+    grant(0x10, 0, 0x10);
+    grant(0x0f, 0, 0x10);
+    grant(0x1f, 0, 0x20);
+    grant(0x1f, 0, 0x8000_0000);
+    grant(0x1f, 0, 0);
+}
+
+// "permitted and, for bits 0, 2 and 3, bit 4 is already held or is requested and permitted in this call"
+fn hot_plug() {
+    grant(0x11, 0, 0x11);
+    grant(0x11, 0, 0x01);
+    grant(0x01, 0, 0x11);
+    grant(0x10, 0, 0x11);
+    grant(0x11, 0x10, 0x01);
+    grant(0x10, 0x10, 0x01);
+}
+
+fn pme() {
+    grant(0x14, 0, 0x14);
+    grant(0x14, 0, 0x04);
+    grant(0x04, 0, 0x14);
+    grant(0x10, 0, 0x14);
+    grant(0x14, 0x10, 0x04);
+    grant(0x10, 0x10, 0x04);
+}
+
+fn aer() {
+    grant(0x18, 0, 0x18);
+    grant(0x18, 0, 0x08);
+    grant(0x08, 0, 0x18);
+    grant(0x10, 0, 0x18);
+    grant(0x18, 0x10, 0x08);
+    grant(0x10, 0x10, 0x08);
+}
+
+// "either already held"; "granted bits join the held ones"
+fn joined() {
+    grant(0x1f, 0x11, 0x01);
+    grant(0x1f, 0x12, 0x10);
+    grant(0x1f, 0x12, 0x0c);
+}
+
+// "bit 0 the query flag"; "Status input bits above 0 are ignored"; "support (bits 0 to 4 known)"
+fn flags() {
+    sent(0x1f, 0, 0, 0x1f, 0x11);
+    sent(0x1f, 0, 1, 0x1f, 0x11);
+    sent(0x0f, 0, 1, 0, 0x1f);
+    sent(0x1f, 0, 3, 0x1f, 0x11);
+    sent(0x1f, 0, 0xffff_fffe, 0x1f, 0x11);
+    sent(0x1f, 0, 0, 0x20, 0x11);
+    sent(0x1f, 0, 0, 0xffff_ffff, 0x11);
+}
+
+// "Reset and report 1, 2."
+fn callers() {
+    print::text(b"(reset, report: session, bridge)\n");
+    reset(1, 0);
+    reset(2, 0);
+    reset(0, 3);
+    reset(1, 16);
+    report(1, 0);
+    report(2, 0);
+    report(0, 3);
+    report(1, 16);
+}
+
+pub fn lines() {
+    print::text(b"Granting control\n");
+    alone();
+    hot_plug();
+    pme();
+    aer();
+    joined();
+    flags();
+    callers();
+}

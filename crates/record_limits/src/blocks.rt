@@ -1,0 +1,209 @@
+// Record blocks, and the record search in them.
+ghost use Prim.Native.Nat.{_≤_};
+ghost use lib.ListN.{length as List·length};
+
+// A record of each type, 23, 19 and 71 bytes, with every value at its limit.
+const LIMITS: [u8; 113] =
+    *b"\x00\x14\x00\x01\x00\x00\x00\xff\x00\x00\x00\xff\x00\x00\x00\x01\x00\x00\x00\x01\x00\x00\x00\x01\x10\x00\x01\x00\x00\x00\x03\x00\x00\x00\x07\x00\x00\x00\x07\x00\x00\x00\x02\x44\x00\x01\x00\x00\x00\xff\xff\xff\xff\xff\xff\xff\xff\xff\xff\xff\xff\xff\xff\xff\xff\xff\xff\xff\xff\xff\xff\xff\xff\xff\xff\xff\xff\xff\xff\xff\xff\xff\xff\x00\x00\xff\xff\x00\x00\xff\xff\x00\x00\xff\xff\x00\x00\xff\xff\xff\xff\xff\xff\xff\xff\xff\xff\xff\xff\xff\xff\xff\xff";
+
+// The number, and where the record lies in the deciding block.
+fn search<'a>(slot: &'a [u8], block: &'a [u8], record_type: u32) {
+    let found = hpx::search(slot, block, record_type);
+    print::came(found.number);
+    print::decimals(b", part", &[found.start as u64, found.size as u64]);
+    print::end();
+}
+
+// The search in the first bytes of a bridge's block.
+fn search_in(b: &[u8], lent: usize, record_type: u32)
+    requires { ⌜ lent ≤ List·length (now b) ⌝ }
+{
+    search(b"", &b[..lent], record_type);
+}
+
+// The DWORD at a byte of LIMITS is this; the record of this type is looked for.
+fn dword(at: usize, value: u32, record_type: u32)
+    requires { ⌜ at ≤ 109 ⌝ }
+{
+    print::decimals(b"dword", &[at as u64, value as u64, record_type as u64]);
+    let mut b = LIMITS;
+    words::write32(&mut b, at, value);
+    search(b"", &b, record_type);
+}
+
+// Two fields with this tag and length, of revisions `first` and 1, and zeros.
+fn fields(tag: u8, length: u8, first: u8) -> [u8; 160]
+    requires { ⌜ length ≤ 72 ⌝ }
+{
+    let next = 3 + (length as usize);
+    let mut b = [0; 160];
+    b[0] = tag;
+    b[1] = length;
+    b[3] = first;
+    b[next] = tag;
+    b[next + 1] = length;
+    b[next + 3] = 1;
+    b
+}
+
+// The first of them, and both.
+fn field(tag: u8, length: u8, revision: u8)
+    requires { ⌜ length ≤ 72 ⌝ }
+{
+    print::decimals(b"field", &[tag as u64, length as u64, revision as u64]);
+    search_in(
+        &fields(tag, length, revision),
+        3 + (length as usize),
+        tag as u32,
+    );
+}
+
+fn twice(tag: u8, length: u8, first: u8)
+    requires { ⌜ length ≤ 72 ⌝ }
+{
+    print::decimals(b"twice", &[tag as u64, length as u64, first as u64]);
+    search_in(
+        &fields(tag, length, first),
+        6 + 2 * (length as usize),
+        tag as u32,
+    );
+}
+
+// One field with tag 3 and length 768 + `low`, which fills a block of 3 bytes more.
+fn filled(low: u8)
+    requires { ⌜ low ≤ 254 ⌝ }
+{
+    let bytes = 771 + (low as usize);
+    print::decimals(b"filled", &[bytes as u64]);
+    let mut b = [0; 1025];
+    b[0] = 3;
+    b[1] = low;
+    b[2] = 3;
+    search_in(&b, bytes, 0);
+}
+
+// These blocks, and the type 1 record.
+fn blocks<'a>(words: &[u8], slot: &'a [u8], block: &'a [u8]) {
+    print::text(words);
+    search(slot, block, 1);
+}
+
+// "a type above 2 is never found"; "a revision other than 1 is skipped"
+fn types() {
+    print::text(
+        b"(dword of the block in which every value is at its limit: where, what; type looked for)\n",
+    );
+    dword(3, 1, 0);
+    dword(3, 1, 1);
+    dword(3, 1, 2);
+    dword(3, 1, 3);
+    dword(3, 1, 256);
+    dword(3, 0, 0);
+    dword(3, 257, 0);
+    dword(15, 2, 3);
+    dword(26, 2, 1);
+    dword(45, 2, 2);
+}
+
+// "type 0 cache line and latency at most 255, SERR and PERR 0 or 1; type 1 read count at most 3, both split counts at most 7"
+fn types_0_and_1() {
+    dword(7, 256, 0);
+    dword(11, 256, 0);
+    dword(15, 2, 0);
+    dword(15, 0, 0);
+    dword(19, 2, 0);
+    dword(19, 0, 0);
+    dword(30, 4, 0);
+    dword(34, 8, 0);
+    dword(38, 8, 0);
+}
+
+// "type 2 eight AND/OR pairs, those of Device Control and Link Control at most 65535"
+fn type_2() {
+    dword(81, 65536, 0);
+    dword(85, 65536, 0);
+    dword(89, 65536, 0);
+    dword(93, 65536, 0);
+}
+
+// "Tags above 2 are skipped whatever their value. Tags 0 to 2 need a length of at least 4, a multiple of 4; a revision other than 1 is skipped."
+fn tags() {
+    print::text(
+        b"(field, twice: tag, length, revision; the second's revision is 1; their type is looked for)\n",
+    );
+    field(2, 3, 2);
+    field(3, 3, 2);
+    field(3, 4, 1);
+    field(0, 0, 0);
+    field(0, 4, 2);
+    field(1, 5, 2);
+    field(1, 6, 2);
+    field(1, 8, 2);
+}
+
+// "Revision 1 has length 20, 16 or 68 for types 0, 1, 2"
+fn sizes() {
+    field(0, 16, 1);
+    field(0, 20, 1);
+    field(0, 24, 1);
+    field(1, 12, 1);
+    field(1, 16, 1);
+    field(1, 20, 1);
+    field(2, 64, 1);
+    field(2, 68, 1);
+    field(2, 72, 1);
+}
+
+// "at most once each"
+fn repeated() {
+    twice(0, 20, 1);
+    twice(0, 20, 2);
+    twice(1, 16, 1);
+    twice(1, 16, 2);
+    twice(2, 68, 1);
+    twice(2, 68, 2);
+}
+
+// "A length running past the end, one or two bytes left over, or a block above 1024 bytes is unsound"
+fn ends() {
+    blocks(b"a byte, length 1", b"", b"\x03\x01\x00\xff");
+    blocks(b"no byte, length 1", b"", b"\x03\x01\x00");
+    blocks(b"1 byte left over", b"", b"\x03\x00\x00\x03");
+    blocks(b"2 bytes left over", b"", b"\x03\x00\x00\x03\x00");
+    blocks(b"a second field", b"", b"\x03\x00\x00\x03\x00\x00");
+    filled(253);
+    filled(254);
+}
+
+// "If the slot's is not empty it alone decides"
+fn deciding() {
+    blocks(b"slot's empty, bridge's has the record", b"", &LIMITS);
+    blocks(
+        b"slot's has no record, bridge's has it",
+        b"\x03\x00\x00",
+        &LIMITS,
+    );
+    blocks(
+        b"slot's has the record, bridge's not sound",
+        &LIMITS,
+        b"\x03",
+    );
+    blocks(
+        b"slot's not sound, bridge's has the record",
+        b"\x03",
+        &LIMITS,
+    );
+    blocks(b"both empty", b"", b"");
+}
+
+pub fn lines() {
+    print::text(b"Record blocks\n");
+    types();
+    types_0_and_1();
+    type_2();
+    tags();
+    sizes();
+    repeated();
+    ends();
+    deciding();
+}

@@ -1,0 +1,9 @@
+// The limits of record blocks, the record search and register values.
+
+mod blocks;
+mod registers;
+
+pub fn lines() {
+    blocks::lines();
+    registers::lines();
+}

@@ -1,0 +1,143 @@
+// Register values. Session 1 calls on bridge 0, which permits every bit. Register k, from 0, has the current value 0x80000fff + k x 0x1000; its AND mask is
+// 0xffffff00 + (k + 1) x 0x10, its OR mask 0x10000 + k + 1; of Device Control and Link Control, registers 4 and 5, the low halves.
+use rules::BridgeNumber;
+use rules::SessionNumber;
+use rules::Values;
+ghost use Prim.Native.Nat.{_<_, _≤_};
+ghost use lib.ListN.{length as List·length};
+
+fn block() -> [u8; fixtures::SETTINGS] {
+    let mut b = fixtures::settings(0, 0);
+    fixtures::put_pair(&mut b, 0, 0xffff_ff10, 0x1_0001);
+    fixtures::put_pair(&mut b, 1, 0xffff_ff20, 0x1_0002);
+    fixtures::put_pair(&mut b, 2, 0xffff_ff30, 0x1_0003);
+    fixtures::put_pair(&mut b, 3, 0xffff_ff40, 0x1_0004);
+    fixtures::put_pair(&mut b, 4, 0xff50, 0x5);
+    fixtures::put_pair(&mut b, 5, 0xff60, 0x6);
+    fixtures::put_pair(&mut b, 6, 0xffff_ff70, 0x1_0007);
+    fixtures::put_pair(&mut b, 7, 0xffff_ff80, 0x1_0008);
+    b
+}
+
+// The current values, and one more, but for register k.
+fn current(k: usize, value: u32) -> [u32; 9]
+    requires { ⌜ k < 9 ⌝ }
+{
+    let mut c = [
+        0x8000_0fff,
+        0x8000_1fff,
+        0x8000_2fff,
+        0x8000_3fff,
+        0x4fff,
+        0x5fff,
+        0x8000_6fff,
+        0x8000_7fff,
+        0,
+    ];
+    c[k] = value;
+    c
+}
+
+// Session 1's call with the first `count` registers, once these bits of bridge 0 were taken.
+fn asked(control: u32, block: &[u8], current: &[u32], count: usize) -> Values
+    requires { ⌜ count ≤ List·length (now current) ⌝ }
+{
+    let t = fixtures::take(fixtures::three_bridges(0x1f), 0, control);
+    let s = SessionNumber(1);
+    bridges::register_values(t, s, BridgeNumber(0), b"", block, &current[..count])
+}
+
+// A session's call on a bridge, of which 0 alone holds bits 0 and 4; registers of 0.
+fn by(session: u8, bridge: u8, current: &[u32], block: &[u8]) {
+    print::decimals(
+        b"by",
+        &[
+            session as u64,
+            bridge as u64,
+            current.len() as u64,
+            block.len() as u64,
+        ],
+    );
+    let t = fixtures::take(fixtures::three_bridges(0x1f), 0, 0x11);
+    let s = SessionNumber(session);
+    let v = bridges::register_values(t, s, BridgeNumber(bridge), b"", block, current);
+    print::came(v.number);
+    print::end();
+}
+
+// The number, and the eight new values.
+fn came(v: Values) {
+    let n = v.values;
+    print::came(v.number);
+    print::hexes(b",", &[n[0] as u64, n[1] as u64, n[2] as u64, n[3] as u64]);
+    print::hexes(b"", &[n[4] as u64, n[5] as u64, n[6] as u64, n[7] as u64]);
+    print::end();
+}
+
+fn held(control: u32) {
+    print::hexes(b"held", &[control as u64]);
+    came(asked(control, &block(), &current(8, 0), 8));
+}
+
+// So many registers.
+fn registers(count: usize)
+    requires { ⌜ count ≤ 9 ⌝ }
+{
+    print::decimals(b"registers", &[count as u64]);
+    came(asked(0x11, &block(), &current(8, 0), count));
+}
+
+// Register k has this value.
+fn register(k: usize, value: u32)
+    requires { ⌜ k < 8 ⌝ }
+{
+    print::decimals(b"register", &[k as u64]);
+    print::hexes(b"", &[value as u64]);
+    came(asked(0x11, &block(), &current(k, value), 8));
+}
+
+// "Register values 1, 2, 11, 10, 8, 9." A block of 1 byte is not sound, the one of 3 has a field that is skipped.
+fn orders() {
+    print::text(b"(by: session, bridge, number of registers, bytes of the block)\n");
+    by(1, 0, &[0; 8], b"\x03\x00\x00");
+    by(1, 0, &[0; 8], b"\x03");
+    by(1, 0, &[0; 7], b"\x03\x00\x00");
+    by(1, 0, &[0; 7], b"\x03");
+    by(2, 1, &[0; 7], b"\x03\x00\x00");
+    by(2, 1, &[0; 7], b"\x03");
+    by(1, 1, &[0; 7], b"\x03");
+    by(2, 0, &[0; 7], b"\x03");
+    by(0, 3, &[0; 7], b"\x03");
+    by(1, 16, &[0; 7], b"\x03");
+}
+
+// "the bridge does not hold control bit 0"; "for the six error registers too, unless AER (bit 3) is held, when they stay"
+fn control() {
+    held(0);
+    held(0x1e);
+    held(0x11);
+    held(0x15);
+    held(0x19);
+    held(0x1f);
+}
+
+// "the register list is not 8 numbers, or its Device Control or Link Control is above 65535"
+fn lists() {
+    registers(7);
+    registers(8);
+    registers(9);
+    register(4, 65535);
+    register(4, 65536);
+    register(5, 65535);
+    register(5, 65536);
+    register(3, 0xffff_ffff);
+    register(6, 0xffff_ffff);
+}
+
+pub fn lines() {
+    print::text(b"Register values\n");
+    orders();
+    print::text(b"(held: control bits; registers: their number; register: which, what)\n");
+    control();
+    lists();
+}

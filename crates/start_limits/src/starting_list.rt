@@ -1,0 +1,170 @@
+// The starting list. The MCFG table has three entries: segment 0, base 0xe0000000, buses 16 to 31; segment 0, base 0xc0000000, buses 32 to 47; segment 1, base 0x40000000,
+// buses 16 to 31.
+use crate::mcfg_table;
+use fixtures::MCFG_ROOM;
+use rules::BridgeNumber;
+use rules::BridgeRow;
+use rules::SessionNumber;
+use rules::Started;
+use rules::constants::CONVENTIONAL;
+use rules::constants::EXPRESS;
+use start_array::LIST_ROWS;
+ghost use Rattle.rules.specs.Start.{Sound};
+
+fn three_entries() -> [u8; MCFG_ROOM] {
+    let mut m = fixtures::mcfg(0, 0, 0, 0);
+    fixtures::put_entry(&mut m, 0, mcfg_table::entry(0, 0xe000_0000, 16, 31));
+    fixtures::put_entry(&mut m, 1, mcfg_table::entry(0, 0xc000_0000, 32, 47));
+    fixtures::put_entry(&mut m, 2, mcfg_table::entry(1, 0x4000_0000, 16, 31));
+    fixtures::seal(&mut m, 92);
+    m
+}
+
+fn start(rows: [BridgeRow; LIST_ROWS], count: usize) -> Started
+    ensures { λ r. ⌜ Sound (r .table) ⌝ }
+{
+    let m = three_entries();
+    fixtures::start_on(&m, 92, rows, count)
+}
+
+// The number, and how many bridges the table has.
+fn came(started: Started) {
+    print::came(started.number);
+    print::decimals(b", bridges", &[started.table.count as u64]);
+    print::end();
+}
+
+fn row(
+    owner: u8,
+    segment: u16,
+    first_bus: u8,
+    last_bus: u8,
+    kind: u8,
+    permitted: u32,
+) -> BridgeRow {
+    let owner = SessionNumber(owner);
+    BridgeRow {
+        permitted,
+        segment,
+        owner,
+        first_bus,
+        last_bus,
+        kind,
+    }
+}
+
+// So many rows of one bus each, in an entry of their own.
+fn rows(count: usize) {
+    print::decimals(b"rows", &[count as u64]);
+    came(fixtures::start(0xe000_0000, 0, 255, 1, fixtures::rows_by_bus(), count));
+}
+
+// An MCFG table whose sum is so much too large, and a row of this owner.
+fn both(sum: u8, owner: u8) {
+    print::decimals(b"both", &[sum as u64, owner as u64]);
+    let rows = [fixtures::row(owner, 16, 31, 0); LIST_ROWS];
+    came(fixtures::start_on(&mcfg_table::with_sum(sum), 60, rows, 1));
+}
+
+// One row for bus 16 of segment 0.
+fn one(owner: u8, kind: u8, permitted: u32) {
+    print::decimals(b"row", &[owner as u64, kind as u64]);
+    print::hexes(b"", &[permitted as u64]);
+    came(start([row(owner, 0, 16, 16, kind, permitted); LIST_ROWS], 1));
+}
+
+// One Express row of session 1: its bridge's first address, and what it holds.
+fn buses(segment: u16, first: u8, last: u8) {
+    print::decimals(b"buses", &[segment as u64, first as u64, last as u64]);
+    let started = start([row(1, segment, first, last, EXPRESS, 0x1f); LIST_ROWS], 1);
+    let t = started.table;
+    let a = bridges::address(
+        t,
+        SessionNumber(1),
+        BridgeNumber(0),
+        first as u32,
+        0,
+        0,
+        0,
+        1,
+    );
+    let r = bridges::report(t, SessionNumber(1), BridgeNumber(0));
+    print::came(started.number);
+    print::hexes(b", begins", &[a.address]);
+    print::hexes(
+        b", holds",
+        &[r.holding.held as u64, r.holding.supported as u64],
+    );
+    print::end();
+}
+
+// Rows for buses 20 to 23 and for bus 17 of segment 0, and this one.
+fn third(segment: u16, first: u8, last: u8) {
+    print::decimals(b"third row", &[segment as u64, first as u64, last as u64]);
+    let mut rows = [row(1, 0, 20, 23, EXPRESS, 0); LIST_ROWS];
+    rows[1] = row(1, 0, 17, 17, EXPRESS, 0);
+    rows[2] = row(2, segment, first, last, EXPRESS, 0);
+    came(start(rows, 3));
+}
+
+// "0 to 16 rows"; "owner not above 15"
+fn rows_and_owners() {
+    print::text(b"(rows: number of rows; row: owner, kind, permitted bits)\n");
+    rows(0);
+    rows(16);
+    rows(17);
+    one(15, EXPRESS, 0x1f);
+    one(16, EXPRESS, 0x1f);
+    one(255, EXPRESS, 0x1f);
+}
+
+// "no permitted bit above 4; a conventional row permits no bit but 1"
+fn permitted() {
+    one(1, EXPRESS, 0x20);
+    one(1, EXPRESS, 0x8000_0000);
+    one(1, CONVENTIONAL, 0x02);
+    one(1, CONVENTIONAL, 0x03);
+    one(1, CONVENTIONAL, 0x06);
+    one(1, CONVENTIONAL, 0x0a);
+    one(1, CONVENTIONAL, 0x12);
+    one(1, 2, 0x02);
+}
+
+// "first not above last; the row's buses lie inside one MCFG entry of its segment, whose base the row takes"; "Held and supported bits start at 0"
+fn inside() {
+    print::text(b"(buses: segment, first, last)\n");
+    buses(0, 20, 20);
+    buses(0, 20, 19);
+    buses(0, 16, 31);
+    buses(0, 15, 31);
+    buses(0, 32, 47);
+    buses(0, 32, 48);
+    buses(0, 31, 32);
+    buses(1, 16, 31);
+    buses(1, 32, 47);
+    buses(256, 16, 31);
+}
+
+// "two rows of one segment share no bus"
+fn shared_buses() {
+    print::text(b"(third row: segment, first bus, last bus; the first: 0 20 23)\n");
+    third(0, 24, 31);
+    third(0, 23, 31);
+    third(0, 18, 19);
+    third(0, 18, 20);
+    third(0, 21, 22);
+    third(0, 18, 31);
+    third(1, 20, 23);
+    third(0, 17, 17);
+}
+
+pub fn lines() {
+    print::text(b"The starting list\n");
+    print::text(b"(both: sum of the MCFG table, owner of the row)\n");
+    both(0, 16);
+    both(1, 16);
+    rows_and_owners();
+    permitted();
+    inside();
+    shared_buses();
+}
