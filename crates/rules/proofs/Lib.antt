@@ -18,3 +18,4 @@ pub mod Negotiation
 pub mod Claims
 pub mod Records
 pub mod Buffers
+pub mod AllClaims

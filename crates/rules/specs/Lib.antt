@@ -13,3 +13,4 @@ pub mod History
 pub mod Claims
 pub mod BenchSheet
 pub mod BenchRuns
+pub mod AllClaims

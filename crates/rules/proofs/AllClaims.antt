@@ -1,0 +1,30 @@
+-- All claims, proved. Assumes nothing.
+use Rattle.rules.specs.AllClaims.{AllClaims}
+use Rattle.rules.proofs.Lists.{every-and-pair}
+use Rattle.rules.proofs.Granting.{granted-bits}
+use Rattle.rules.proofs.Claims.{refusals-exactly, refused-changes-nothing, tables-sound, history-holds, queries-change-nothing, held-until-reset, there-and-back, back-and-there, one-address, separation, negotiation}
+use Rattle.rules.proofs.Buffers.{buffers-keep-length}
+use Rattle.rules.proofs.Records.{record-part}
+use Rattle.rules.proofs.BenchSheet.{bench-sheet}
+use Rattle.rules.proofs.BenchRuns.{example-runs}
+
+pub all-claims : AllClaims
+all-claims = record {
+  every-and-pair = every-and-pair;
+  granted-bits = granted-bits;
+  refusals-exactly = refusals-exactly;
+  refused-changes-nothing = refused-changes-nothing;
+  buffers-keep-length = buffers-keep-length;
+  record-part = record-part;
+  tables-sound = tables-sound;
+  history-holds = history-holds;
+  queries-change-nothing = queries-change-nothing;
+  held-until-reset = held-until-reset;
+  there-and-back = there-and-back;
+  back-and-there = back-and-there;
+  one-address = one-address;
+  separation = separation;
+  negotiation = negotiation;
+  bench-sheet = bench-sheet;
+  example-runs = example-runs;
+}

@@ -1,0 +1,27 @@
+-- All claims, one field for each. Its one proof is `all-claims`; the public crate cites every field of it by name and type.
+use Rattle.rules.specs.Claims.{EveryAndPair, GrantedBits, RefusalsExactly, RefusedChangesNothing, BuffersKeepLength, RecordPart, TablesSound, History, QueriesChangeNothing, HeldUntilReset, ThereAndBack, BackAndThere, OneAddress, Separation, Negotiation}
+use Rattle.rules.specs.BenchSheet.{BenchSheet}
+use Rattle.rules.specs.BenchRuns.{ExampleRuns}
+
+pub record AllClaims : Type 1 where
+  pub every-and-pair : EveryAndPair
+  pub granted-bits : GrantedBits
+  -- demand 1
+  pub refusals-exactly : RefusalsExactly
+  pub refused-changes-nothing : RefusedChangesNothing
+  pub buffers-keep-length : BuffersKeepLength
+  pub record-part : RecordPart
+  -- demand 2
+  pub tables-sound : TablesSound
+  pub history-holds : History
+  pub queries-change-nothing : QueriesChangeNothing
+  pub held-until-reset : HeldUntilReset
+  pub there-and-back : ThereAndBack
+  pub back-and-there : BackAndThere
+  pub one-address : OneAddress
+  -- demand 3
+  pub separation : Separation
+  -- the rest of document 01
+  pub negotiation : Negotiation
+  pub bench-sheet : BenchSheet
+  pub example-runs : ExampleRuns
