@@ -123,7 +123,7 @@ abbrev pub skipped : List ℕ
 skipped = 0x03 ∷ 0 ∷ 0 ∷ []
 
 abbrev pub current : List ℕ
-current = 0x11110 ∷ 0x2222 ∷ 0x3333 ∷ 0x4444 ∷ 0x2110 ∷ 0x43 ∷ 0x7777 ∷ 0x8888 ∷ []
+current = 0x1111F ∷ 0x2222F ∷ 0x3333F ∷ 0x4444F ∷ 0x2110 ∷ 0x43 ∷ 0x7777F ∷ 0x8888F ∷ []
 
 abbrev pub calls : List Call
 calls =
@@ -173,7 +173,7 @@ run =
     ∷ outcome 0 (located (record { bridge = bridge 0; bus = 1; device = 2; function = 3; offset = 0x10 })) []
     ∷ outcome 0 (located (record { bridge = bridge 0; bus = 15; device = 31; function = 7; offset = 4095 })) []
     ∷ outcome 4 (located (record { bridge = bridge 0; bus = 0; device = 0; function = 0; offset = 0 })) []
-    ∷ outcome 0 (values (0x11110 ∷ 0x2222 ∷ 0x3333 ∷ 0x4444 ∷ 0x2116 ∷ 0x42 ∷ 0x7777 ∷ 0x8888 ∷ [])) ([] ∷ type2 ∷ current ∷ [])
+    ∷ outcome 0 (values (0x1111F ∷ 0x2222F ∷ 0x3333F ∷ 0x4444F ∷ 0x2116 ∷ 0x42 ∷ 0x7777F ∷ 0x8888F ∷ [])) ([] ∷ type2 ∷ current ∷ [])
     ∷ outcome 9 (values (replicate 8 0)) (skipped ∷ type2 ∷ current ∷ [])
     ∷ outcome 11 (values (replicate 8 0)) ([] ∷ type2 ∷ [] ∷ [])
     ∷ outcome 10 (values (replicate 8 0)) ([] ∷ type2 ∷ [] ∷ [])
@@ -181,7 +181,7 @@ run =
     ∷ outcome 0 nothing []
     ∷ outcome 0 (reported (record { held = 0; supported = 0 })) []
     ∷ outcome 0 nothing (uuidBytes ∷ takeTwo ∷ (0 ∷ 0 ∷ 0 ∷ 0 ∷ 0 ∷ 0 ∷ 0 ∷ 0 ∷ 0x11 ∷ 0 ∷ 0 ∷ 0 ∷ []) ∷ [])
-    ∷ outcome 0 (values (0x11111 ∷ 0x2222 ∷ 0x3333 ∷ 0x4444 ∷ 0x2116 ∷ 0x42 ∷ 0x7777 ∷ 0x8888 ∷ [])) (type2 ∷ [] ∷ current ∷ [])
+    ∷ outcome 0 (values (0x11111 ∷ 0x22222 ∷ 0x33333 ∷ 0x44444 ∷ 0x2116 ∷ 0x42 ∷ 0x77777 ∷ 0x88888 ∷ [])) (type2 ∷ [] ∷ current ∷ [])
     ∷ [])
     ∷ []
 
@@ -218,13 +218,13 @@ searches =
     ∷ (findRecord [] (0x03 ∷ 0xFE ∷ 0x03 ∷ replicate 1022 0) 0 gives found 8 0 0)
     ∷ []
 
--- ---- grants beyond the sheet: a held bit that is not permitted; a bit above 4; status and support of all bits
+-- ---- grants beyond the sheet: a held bit that is not permitted, and bit 3 that is not; a bit above 4; bits 0 to 2 that are not permitted, with status and support of all bits
 
 abbrev pub grants : List Line
 grants =
-    (oscOn 0 0x02 (0 ∷ 0 ∷ 0 ∷ 0 ∷ 0 ∷ 0 ∷ 0 ∷ 0 ∷ 0x02 ∷ 0 ∷ 0 ∷ 0 ∷ []) gives record { answer = 0 ∷ 0 ∷ 0 ∷ 0 ∷ 0 ∷ 0 ∷ 0 ∷ 0 ∷ 0x02 ∷ 0 ∷ 0 ∷ 0 ∷ []; held = 0x02 })
+    (oscOn 0x15 0x02 (0 ∷ 0 ∷ 0 ∷ 0 ∷ 0 ∷ 0 ∷ 0 ∷ 0 ∷ 0x1A ∷ 0 ∷ 0 ∷ 0 ∷ []) gives record { answer = 0x10 ∷ 0 ∷ 0 ∷ 0 ∷ 0 ∷ 0 ∷ 0 ∷ 0 ∷ 0x12 ∷ 0 ∷ 0 ∷ 0 ∷ []; held = 0x12 })
     ∷ (oscOn 0x1F 0 (0 ∷ 0 ∷ 0 ∷ 0 ∷ 0 ∷ 0 ∷ 0 ∷ 0 ∷ 0 ∷ 0 ∷ 0 ∷ 0x80 ∷ []) gives record { answer = 0x10 ∷ 0 ∷ 0 ∷ 0 ∷ 0 ∷ 0 ∷ 0 ∷ 0 ∷ 0 ∷ 0 ∷ 0 ∷ 0 ∷ []; held = 0 })
-    ∷ (oscOn 0x1F 0 (0xFE ∷ 0xFF ∷ 0xFF ∷ 0xFF ∷ 0xEF ∷ 0xBE ∷ 0xAD ∷ 0xDE ∷ 0x10 ∷ 0 ∷ 0 ∷ 0 ∷ []) gives record { answer = 0 ∷ 0 ∷ 0 ∷ 0 ∷ 0xEF ∷ 0xBE ∷ 0xAD ∷ 0xDE ∷ 0x10 ∷ 0 ∷ 0 ∷ 0 ∷ []; held = 0x10 })
+    ∷ (oscOn 0x18 0 (0xFE ∷ 0xFF ∷ 0xFF ∷ 0xFF ∷ 0xEF ∷ 0xBE ∷ 0xAD ∷ 0xDE ∷ 0x1F ∷ 0 ∷ 0 ∷ 0 ∷ []) gives record { answer = 0x10 ∷ 0 ∷ 0 ∷ 0 ∷ 0xEF ∷ 0xBE ∷ 0xAD ∷ 0xDE ∷ 0x18 ∷ 0 ∷ 0 ∷ 0 ∷ []; held = 0x18 })
     ∷ []
 
 -- ---- refusals 5 and 4 of a place
