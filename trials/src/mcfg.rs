@@ -205,7 +205,7 @@ fn spoiled_bytes(random: &mut Random, mut bytes: Vec<u8>) -> Vec<u8> {
             mend_checksum(&mut bytes);
             return bytes;
         }
-        3 => bytes[8] = random.pick(&[0, 2, 255]),
+        3 => bytes[8] = random.pick(&[0, 2, 3, 255]),
         4 => {
             bytes[9] = bytes[9].wrapping_add(random.pick(&[1, 255, 0x80]));
             return bytes;

@@ -3,6 +3,8 @@
 
 mod errors_seen;
 mod lent;
+mod misread;
+mod misread_starts;
 mod narrowed;
 mod sessions;
 mod wrong;

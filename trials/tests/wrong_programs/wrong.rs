@@ -45,6 +45,17 @@ pub fn pair(rule: Rule) -> Pair {
     }
 }
 
+/// The reference, asked another call; the answer to an _OSC call is handed on.
+pub fn instead(wrong: &mut Wrong, call: &mut Call, change: fn(&mut Call)) -> Given {
+    let mut changed = call.clone();
+    change(&mut changed);
+    let given = wrong.reference.call(&mut changed);
+    if let (Call::Osc(osc), Call::Osc(changed)) = (call, changed) {
+        osc.answer = changed.answer;
+    }
+    given
+}
+
 /// The shortest list that shows the wrong rule.
 pub fn found(make: fn() -> Pair) -> Box<Found> {
     let setting = Setting {
