@@ -1,4 +1,5 @@
-/* The eight calls from C: numbers, results, buffers and tables as include/slipwattle.h promises them, on either side of each limit.
+/* The eight calls from C: numbers, results, buffers and tables as include/slipwattle.h promises them, on either side of the limits of rows, framing, places, buses
+ * and the register list.
  * Compiled as C11 and as C++17. What is expected is worked out from document 01. */
 #include <assert.h>
 #include <stdio.h>

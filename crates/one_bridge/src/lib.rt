@@ -1,4 +1,5 @@
-// Each call on one bridge of the table, by value: the number of bridges and the bridge named go in, the answer and the bridge come out. Every refusal is made here.
+// Each call on one bridge of the table, by value: the number of bridges and the bridge named go in, the answer and the bridge come out. Every refusal of a call is
+// given by its function here; 8 and 9 are found by hpx.
 use rules::Addressed;
 use rules::Bridge;
 use rules::BridgeNumber;
