@@ -1,12 +1,12 @@
--- All claims, proved. Assumes nothing.
+-- All claims, proved. Assumes nothing. The computed lines come first, so that a wrong rule is refused at one of them.
 use Rattle.rules.specs.AllClaims.{AllClaims}
+use Rattle.rules.proofs.BenchSheet.{bench-sheet}
+use Rattle.rules.proofs.BenchRuns.{example-runs}
 use Rattle.rules.proofs.Lists.{every-and-pair}
 use Rattle.rules.proofs.Granting.{granted-bits}
 use Rattle.rules.proofs.Claims.{refusals-exactly, refused-changes-nothing, tables-sound, history-holds, queries-change-nothing, held-until-reset, there-and-back, back-and-there, one-address, separation, negotiation}
 use Rattle.rules.proofs.Buffers.{buffers-keep-length}
 use Rattle.rules.proofs.Records.{record-part}
-use Rattle.rules.proofs.BenchSheet.{bench-sheet}
-use Rattle.rules.proofs.BenchRuns.{example-runs}
 
 pub all-claims : AllClaims
 all-claims = record {

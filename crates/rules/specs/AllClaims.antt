@@ -1,4 +1,4 @@
--- All claims, one field for each. Its one proof is `all-claims`; the public crate cites every field of it by name and type.
+-- All claims, one field for each. Its one proof is `all-claims`; the public crate uses every field of it.
 use Rattle.rules.specs.Claims.{EveryAndPair, GrantedBits, RefusalsExactly, RefusedChangesNothing, BuffersKeepLength, RecordPart, TablesSound, History, QueriesChangeNothing, HeldUntilReset, ThereAndBack, BackAndThere, OneAddress, Separation, Negotiation}
 use Rattle.rules.specs.BenchSheet.{BenchSheet}
 use Rattle.rules.specs.BenchRuns.{ExampleRuns}
@@ -11,8 +11,9 @@ pub record AllClaims : Type 1 where
   pub refused-changes-nothing : RefusedChangesNothing
   pub buffers-keep-length : BuffersKeepLength
   pub record-part : RecordPart
-  -- demand 2
+  -- what start leaves and every call keeps
   pub tables-sound : TablesSound
+  -- demand 2
   pub history-holds : History
   pub queries-change-nothing : QueriesChangeNothing
   pub held-until-reset : HeldUntilReset

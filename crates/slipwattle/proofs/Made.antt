@@ -1,59 +1,34 @@
--- The claims, of calls made one after the other through the exported functions. Assumes nothing.
---     Made        calls on one lent table: each hands back and leaves what its contract says, and the next finds the table that it left
---     demand-1, demand-2, demand-3        the demands of such calls, from the claims
--- Every claim is cited by its name and type, so that one that is missing or renamed, or is another statement, is an error here.
+-- What the claims give for calls made one after the other, where each call does what the contracts of the exported functions say. Assumes nothing.
+--     Made        calls on one lent table: each hands back and leaves what `step` says, as its contract does, and the next finds the table that it left
+-- Each claim is used here at a type that is written out, so that one that is missing or renamed, or that says less, is an error.
 use mathlib.Core.Path.{_≡_, refl, sym, ap, subst, _∙_}
-use mathlib.Core.Logic.{_⊎_}
-use mathlib.Core.Bool.{true, cond}
-use mathlib.Core.List.{List, [], _∷_}
-use Prim.Native.Nat.{ℕ, suc, _<_}
+use mathlib.Core.Logic.{_↔_, _⊎_}
+use mathlib.Core.Bool.{Bool, true, false, cond}
+use mathlib.Core.List.{List, [], _∷_, map}
+use Prim.Native.Nat.{ℕ, suc, _+_, _≤_, _<_}
 use native.Mathlib.Omega.{arith}
+use lib.Bits.{bitOr}
+use lib.ListN.{length, getD}
+use Rattle.rules.specs.Numbers.{byte, word, dword, bit}
+use Rattle.rules.specs.Lists.{every, pairwise}
 use Rattle.rules.specs.Refusals.{GivenBy}
-use Rattle.rules.specs.Tables.{nothingHeld, holding, owns, bridgeAt}
+use Rattle.rules.specs.Tables.{nothingHeld, holding, cleared, owns, bridgeAt}
 use Rattle.rules.specs.Place.{InReach}
 use Rattle.rules.specs.Start.{StartInput, startRefusals, startNumber, startTable, tableOf, Sound}
-use Rattle.rules.specs.Records.{recordRefusals, findRecord}
-use Rattle.rules.specs.Calls.{Call, Result, Outcome, outcome, step, listed, zerosOf, lentTo, tableAfter, outcomes, isUnder, callsOf, outcomesOf}
-use Rattle.rules.specs.History.{historyFrom}
-use Rattle.rules.specs.Claims.{EveryAndPair, GrantedBits, RefusalsExactly, RefusedChangesNothing, BuffersKeepLength, RecordPart, TablesSound, History, QueriesChangeNothing, HeldUntilReset, ThereAndBack, BackAndThere, OneAddress, Given, Separate, Separation, Negotiation}
-use Rattle.rules.specs.BenchSheet.{BenchSheet}
-use Rattle.rules.specs.BenchRuns.{ExampleRuns}
+use Rattle.rules.specs.Osc.{grantedBit, granted, status, query, control}
+use Rattle.rules.specs.Records.{deciding, recordRefusals, findRecord}
+use Rattle.rules.specs.Calls.{Call, on, osc, reset, locate, Result, addressed, located, Outcome, outcome, step, listed, zerosOf, lentTo, tableAfter, outcomes, isUnder, callsOf, outcomesOf}
+use Rattle.rules.specs.History.{reaches, historyFrom}
+use Rattle.rules.specs.Claims.{addressCall, answers, Given, Separate, Buffers, rightCall, answerOf, Undisturbed, atTaking, secondOutcome, takingOutcome, returned, Negotiated}
+use Rattle.rules.specs.BenchSheet.{AllHold, sheet}
+use Rattle.rules.specs.BenchRuns.{starts, run, searches, grants, places}
 use Rattle.rules.specs.declared.Table.{Table}
+use Rattle.rules.specs.declared.Bridge.{Bridge}
+use Rattle.rules.specs.declared.FoundAt.{FoundAt}
+use Rattle.rules.specs.declared.Place.{Place}
+use Rattle.rules.specs.declared.BridgeNumber.{BridgeNumber}
 use Rattle.rules.specs.declared.SessionNumber.{SessionNumber}
 use Rattle.rules.proofs.AllClaims.{all-claims}
-
--- ---- every claim, by name and type
-
-refusals-exactly : RefusalsExactly
-refusals-exactly = all-claims .refusals-exactly
-
-refused-changes-nothing : RefusedChangesNothing
-refused-changes-nothing = all-claims .refused-changes-nothing
-
-tables-sound : TablesSound
-tables-sound = all-claims .tables-sound
-
-history-holds : History
-history-holds = all-claims .history-holds
-
-separation : Separation
-separation = all-claims .separation
-
-pub others : EveryAndPair × GrantedBits × BuffersKeepLength × RecordPart × QueriesChangeNothing × HeldUntilReset × ThereAndBack × BackAndThere × OneAddress × Negotiation × BenchSheet × ExampleRuns
-others = (
-  all-claims .every-and-pair,
-  all-claims .granted-bits,
-  all-claims .buffers-keep-length,
-  all-claims .record-part,
-  all-claims .queries-change-nothing,
-  all-claims .held-until-reset,
-  all-claims .there-and-back,
-  all-claims .back-and-there,
-  all-claims .one-address,
-  all-claims .negotiation,
-  all-claims .bench-sheet,
-  all-claims .example-runs,
-)
 
 -- ---- calls made one after the other
 
@@ -65,7 +40,8 @@ pub data Made : Table → List Call → List Outcome → Table → Type 0 where
 pub made-outcomes : (t : Table) (l : List Call) (p : List Outcome) (u : Table) → Made t l p u → p ≡ outcomes t l
 made-outcomes t [] [] u none = refl
 made-outcomes t (c ∷ l) (o ∷ p) v (call e f m) =
-    ap (λ (x : Outcome). x ∷ p) e ∙ ap (λ (q : List Outcome). step t c .outcome ∷ q) (made-outcomes _ l p v m ∙ ap (λ (w : Table). outcomes w l) f)
+    ap (λ (x : Outcome). x ∷ p) e
+    ∙ ap (λ (q : List Outcome). step t c .outcome ∷ q) (made-outcomes _ l p v m ∙ ap (λ (w : Table). outcomes w l) f)
 
 pub made-table : (t : Table) (l : List Call) (p : List Outcome) (u : Table) → Made t l p u → u ≡ tableAfter t l
 made-table t [] [] u none = refl
@@ -73,49 +49,122 @@ made-table t (c ∷ l) (o ∷ p) v (call e f m) = made-table _ l p v m ∙ ap (�
 
 -- what each call requires holds of the table that it finds
 pub made-sound : (x : StartInput) (l : List Call) (p : List Outcome) (u : Table) → Made (startTable x) l p u → Sound u
-made-sound x l p u m = subst Sound (sym (made-table (startTable x) l p u m)) (go (startTable x) l (tables-sound .0 x))
+made-sound x l p u m = subst Sound (sym (made-table (startTable x) l p u m)) (go (startTable x) l (all-claims .tables-sound .0 x))
   where
     go : (t : Table) (l : List Call) → Sound t → Sound (tableAfter t l)
     go t [] h = h
-    go t (c ∷ l) h = go (step t c .table) l (tables-sound .1 t c h)
+    go t (c ∷ l) h = go (step t c .table) l (all-claims .tables-sound .1 t c h)
 
--- ---- demand 1: the first condition that holds fixes all that a refused call gives
+-- nothing but what bridges hold differs
+pub made-fixed : (t : Table) (l : List Call) (p : List Outcome) (u : Table) → Made t l p u
+    → (u .count ≡ t .count) × ((i : ℕ) → cleared (bridgeAt u i) ≡ cleared (bridgeAt t i))
+made-fixed t [] [] u none = (refl, λ i. refl)
+made-fixed t (c ∷ l) (o ∷ p) v (call e f m) = (
+  made-fixed _ l p v m .0 ∙ ap (λ (w : Table). w .count) f ∙ here .0,
+  λ i. made-fixed _ l p v m .1 i ∙ ap (λ (w : Table). cleared (bridgeAt w i)) f ∙ here .1 i,
+)
+  where
+    here : (step t c .table .count ≡ t .count) × ((i : ℕ) → cleared (bridgeAt (step t c .table) i) ≡ cleared (bridgeAt t i))
+    here = all-claims .tables-sound .2 t c
 
-pub demand-1 : (t : Table) (c : Call) (k : ℕ) → GivenBy (suc k) (listed t c)
+-- ---- demand 1, of any call: its number is the first in its list whose condition holds, and that fixes all that a refused call gives
+
+pub exactly : (t : Table) (c : Call) (k : ℕ) → step t c .outcome .number ≡ k ↔ GivenBy k (listed t c)
+exactly = all-claims .refusals-exactly .0
+
+pub exactly-start : (x : StartInput) (k : ℕ) → startNumber x ≡ k ↔ GivenBy k (startRefusals x)
+exactly-start = all-claims .refusals-exactly .1
+
+pub exactly-search : (slot block : List ℕ) (type k : ℕ) → findRecord slot block type .number ≡ k ↔ GivenBy k (recordRefusals slot block type)
+exactly-search = all-claims .refusals-exactly .2
+
+not-zero : (n k : ℕ) → n ≡ suc k → n ≡ 0 → ⊥
+not-zero n k e z = let f : suc k ≡ 0 = sym e ∙ z in absurd (omega arith)
+
+pub refused : (t : Table) (c : Call) (k : ℕ) → GivenBy (suc k) (listed t c)
     → (step t c .outcome ≡ outcome (suc k) (zerosOf c) (lentTo c)) × (step t c .table ≡ t)
-demand-1 t c k g = (ap (λ (n : ℕ). outcome n (o .result) (o .left)) number ∙ ap (λ (r : Result). outcome (suc k) r (o .left)) (kept .1) ∙ ap (outcome (suc k) (zerosOf c)) (kept .2), kept .0)
+refused t c k g = (
+  ap (λ (n : ℕ). outcome n (o .result) (o .left)) number
+      ∙ ap (λ (r : Result). outcome (suc k) r (o .left)) (kept .1)
+      ∙ ap (outcome (suc k) (zerosOf c)) (kept .2),
+  kept .0,
+)
   where
     o : Outcome
     o = step t c .outcome
 
     number : o .number ≡ suc k
-    number = refusals-exactly .0 t c (suc k) .1 g
+    number = exactly t c (suc k) .1 g
 
     kept : (step t c .table ≡ t) × (o .result ≡ zerosOf c) × (o .left ≡ lentTo c)
-    kept = refused-changes-nothing .0 t c (λ z. let e : suc k ≡ 0 = sym number ∙ z in absurd (omega arith))
+    kept = all-claims .refused-changes-nothing .0 t c (not-zero (o .number) k number)
 
-pub demand-1-start : (x : StartInput) (k : ℕ) → GivenBy (suc k) (startRefusals x) → (startNumber x ≡ suc k) × (startTable x ≡ tableOf [])
-demand-1-start x k g = (number, refused-changes-nothing .1 x (λ z. let e : suc k ≡ 0 = sym number ∙ z in absurd (omega arith)))
-  where
-    number : startNumber x ≡ suc k
-    number = refusals-exactly .1 x (suc k) .1 g
+pub refused-start : (x : StartInput) (k : ℕ) → GivenBy (suc k) (startRefusals x) → startTable x ≡ tableOf []
+refused-start x k g = all-claims .refused-changes-nothing .1 x (not-zero (startNumber x) k (exactly-start x (suc k) .1 g))
 
-pub demand-1-search : (slot block : List ℕ) (type k : ℕ) → GivenBy (suc k) (recordRefusals slot block type)
-    → (findRecord slot block type .number ≡ suc k) × (findRecord slot block type .size ≡ 0)
-demand-1-search slot block type k g = (number, refused-changes-nothing .2 slot block type (λ z. let e : suc k ≡ 0 = sym number ∙ z in absurd (omega arith)))
-  where
-    number : findRecord slot block type .number ≡ suc k
-    number = refusals-exactly .2 slot block type (suc k) .1 g
+pub refused-search : (slot block : List ℕ) (type k : ℕ) → GivenBy (suc k) (recordRefusals slot block type) → findRecord slot block type .size ≡ 0
+refused-search slot block type k g =
+    all-claims .refused-changes-nothing .2 slot block type (not-zero (findRecord slot block type .number) k (exactly-search slot block type (suc k) .1 g))
 
--- ---- demand 2: each bridge holds what the rules read off the list
+pub same-lengths : (t : Table) (c : Call) → map length (step t c .outcome .left) ≡ map length (lentTo c)
+same-lengths = all-claims .buffers-keep-length
 
-pub demand-2 : (x : StartInput) (l : List Call) (p : List Outcome) (u : Table) → Made (startTable x) l p u
-    → (i : ℕ) → i < startTable x .count → holding (bridgeAt u i) ≡ historyFrom (startTable x) i nothingHeld l
-demand-2 x l p u m i h = ap (λ (w : Table). holding (bridgeAt w i)) (made-table (startTable x) l p u m) ∙ history-holds x l i h
+pub found-inside : (slot block : List ℕ) (type : ℕ) → findRecord slot block type .number ≡ 0
+    → let l : List ℕ = deciding slot block in
+    let f : FoundAt = findRecord slot block type in
+    (f .start + f .size ≤ length l) × (byte l (f .start) ≡ type) × (f .size ≡ 3 + word l (1 + f .start)) × (dword l (3 + f .start) ≡ 1)
+found-inside = all-claims .record-part
 
--- ---- demand 3: of two lists that agree on a session's calls
+-- ---- demand 2, of a list of calls made
 
--- what the session's calls of a list gave
+module _ (x : StartInput) (l : List Call) (p : List Outcome) (u : Table) (a : Made (startTable x) l p u) where
+  pub holds : (i : ℕ) → i < startTable x .count → holding (bridgeAt u i) ≡ historyFrom (startTable x) i nothingHeld l
+  holds i h = ap (λ (w : Table). holding (bridgeAt w i)) (made-table (startTable x) l p u a) ∙ all-claims .history-holds x l i h
+
+pub query-leaves : (t : Table) (s : SessionNumber) (n : BridgeNumber) (revision count : ℕ) (uuid caps answer : List ℕ)
+    → query caps ≡ true → step t (on s n (osc revision count uuid caps answer)) .table ≡ t
+query-leaves = all-claims .queries-change-nothing
+
+pub held-stays : (t : Table) (c : Call) (i j : ℕ) → Sound t → i < t .count → bit (bridgeAt t i .held) j ≡ true
+    → ((s : SessionNumber) (n : BridgeNumber) → c ≡ on s n reset → reaches t i s n ≡ false)
+    → bit (bridgeAt (step t c .table) i .held) j ≡ true
+held-stays = all-claims .held-until-reset
+
+-- ---- demands 2 and 3, of two lists of calls made from one start
+
+module _ (x : StartInput) (l m : List Call) (p q : List Outcome) (u v : Table) (a : Made (startTable x) l p u) (b : Made (startTable x) m q v) where
+  first : (A : Table → Type 0) → A u → A (tableAfter (startTable x) l)
+  first A = subst A (made-table (startTable x) l p u a)
+
+  second : (A : Table → Type 0) → A (tableAfter (startTable x) m) → A v
+  second A = subst A (sym (made-table (startTable x) m q v b))
+
+  second-too : (A : Table → Type 0) → A v → A (tableAfter (startTable x) m)
+  second-too A = subst A (made-table (startTable x) m q v b)
+
+  pub there-and-back : (s : SessionNumber) (k : Place) (width c : ℕ)
+      → step u (addressCall s k width) .outcome ≡ answers (addressed c) → step v (locate s c) .outcome ≡ answers (located k)
+  there-and-back s k width c h =
+      second
+      (λ (w : Table). step w (locate s c) .outcome ≡ answers (located k))
+      (all-claims .there-and-back x l m s k width c (first (λ (w : Table). step w (addressCall s k width) .outcome ≡ answers (addressed c)) h))
+
+  pub back-and-there : (s : SessionNumber) (k : Place) (c : ℕ)
+      → step u (locate s c) .outcome ≡ answers (located k) → step v (addressCall s k 1) .outcome ≡ answers (addressed c)
+  back-and-there s k c h =
+      second
+      (λ (w : Table). step w (addressCall s k 1) .outcome ≡ answers (addressed c))
+      (all-claims .back-and-there x l m s k c (first (λ (w : Table). step w (locate s c) .outcome ≡ answers (located k)) h))
+
+  pub one-address : (s r : SessionNumber) (k n : Place) (y z c d : ℕ)
+      → step u (addressCall s k y) .outcome ≡ answers (addressed c) → step v (addressCall r n z) .outcome ≡ answers (addressed d)
+      → (c ≡ d) ↔ (k ≡ n)
+  one-address s r k n y z c d h i =
+      all-claims .one-address x l m s r k n y z c d
+      (first (λ (w : Table). step w (addressCall s k y) .outcome ≡ answers (addressed c)) h)
+      (second-too (λ (w : Table). step w (addressCall r n z) .outcome ≡ answers (addressed d)) i)
+
+-- what a session's calls of a list gave
 abbrev pub mine : SessionNumber → List Call → List Outcome → List Outcome
 mine s [] p = []
 mine s (c ∷ l) [] = []
@@ -126,18 +175,63 @@ mine-is s t [] = refl
 mine-is s t (c ∷ l) = ap (λ (q : List Outcome). cond (isUnder s c) (step t c .outcome ∷ q) q) (mine-is s (step t c .table) l)
 
 module _ (x : StartInput) (l m : List Call) (p q : List Outcome) (u v : Table) (a : Made (startTable x) l p u) (b : Made (startTable x) m q v) where
-  pub demand-3 : (s : SessionNumber) → callsOf s l ≡ callsOf s m
-      → (mine s l p ≡ mine s m q)
-      × ((i : ℕ) → owns s (bridgeAt (startTable x) i) ≡ true → holding (bridgeAt u i) ≡ holding (bridgeAt v i))
-      × ((g r : SessionNumber) → (g ≡ r → ⊥) → (i j y z : ℕ) → Given g i j (startTable x) l ⊎ Given g i j (startTable x) m → Given r y z (startTable x) l ⊎ Given r y z (startTable x) m
-      → (k : ℕ) → InReach i j k → InReach y z k → ⊥)
-  demand-3 s e = (given l p u a ∙ d .same-outcomes ∙ sym (given m q v b), λ i h. at l p u a i ∙ d .same-holding i h ∙ sym (at m q v b i), d .no-shared-byte)
-    where
-      d : Separate s (startTable x) l m
-      d = separation x s l m e
+  module _ (s : SessionNumber) (e : callsOf s l ≡ callsOf s m) where
+    apart : Separate s (startTable x) l m
+    apart = all-claims .separation x s l m e
 
-      given : (l : List Call) (p : List Outcome) (u : Table) → Made (startTable x) l p u → mine s l p ≡ outcomesOf s (startTable x) l
-      given l p u a = ap (mine s l) (made-outcomes (startTable x) l p u a) ∙ mine-is s (startTable x) l
+    given : (l : List Call) (p : List Outcome) (u : Table) → Made (startTable x) l p u → mine s l p ≡ outcomesOf s (startTable x) l
+    given l p u a = ap (mine s l) (made-outcomes (startTable x) l p u a) ∙ mine-is s (startTable x) l
 
-      at : (l : List Call) (p : List Outcome) (u : Table) → Made (startTable x) l p u → (i : ℕ) → holding (bridgeAt u i) ≡ holding (bridgeAt (tableAfter (startTable x) l) i)
-      at l p u a i = ap (λ (w : Table). holding (bridgeAt w i)) (made-table (startTable x) l p u a)
+    at : (l : List Call) (p : List Outcome) (u : Table) → Made (startTable x) l p u
+        → (i : ℕ) → holding (bridgeAt u i) ≡ holding (bridgeAt (tableAfter (startTable x) l) i)
+    at l p u a i = ap (λ (w : Table). holding (bridgeAt w i)) (made-table (startTable x) l p u a)
+
+    -- the session gets the same, its bridges hold the same, and no address reaches another session's
+    pub same-given : mine s l p ≡ mine s m q
+    same-given = given l p u a ∙ apart .same-outcomes ∙ sym (given m q v b)
+
+    pub same-held : (i : ℕ) → owns s (bridgeAt (startTable x) i) ≡ true → holding (bridgeAt u i) ≡ holding (bridgeAt v i)
+    same-held i h = at l p u a i ∙ apart .same-holding i h ∙ sym (at m q v b i)
+
+    pub no-shared-byte : (g r : SessionNumber) → (g ≡ r → ⊥) → (c y d z : ℕ)
+        → Given g c y (startTable x) l ⊎ Given g c y (startTable x) m → Given r d z (startTable x) l ⊎ Given r d z (startTable x) m
+        → (k : ℕ) → InReach c y k → InReach d z k → ⊥
+    no-shared-byte = apart .no-shared-byte
+
+-- ---- negotiation, from any table of a run
+
+pub negotiated : (x : StartInput) (before l m : List Call) (s : SessionNumber) (n : BridgeNumber) (f g h : Buffers)
+    → let t : Table = tableAfter (startTable x) before in
+    n .0 < t .count → owns s (bridgeAt t (n .0)) ≡ true
+    → query (f .caps) ≡ true → query (g .caps) ≡ true → query (h .caps) ≡ false
+    → Undisturbed t (n .0) l → Undisturbed t (n .0) m
+    → control (g .caps) ≡ returned t s n f g h l m → control (h .caps) ≡ returned t s n f g h l m
+    → Negotiated t s n f g h l m
+negotiated = all-claims .negotiation
+
+pub negotiation-gives : (t : Table) (s : SessionNumber) (n : BridgeNumber) (f g h : Buffers) (l m : List Call) → Negotiated t s n f g h l m
+    → let o : Outcome = secondOutcome t s n f g h l m in
+    let r : Outcome = takingOutcome t s n f g h l m in
+    let c : ℕ = returned t s n f g h l m in
+    (o .number ≡ 0) × (status (answerOf o) ≡ 0) × (control (answerOf o) ≡ c)
+    × (r .number ≡ 0) × (status (answerOf r) ≡ 0) × (control (answerOf r) ≡ c)
+    × (bridgeAt (step (atTaking t s n f g h l m) (rightCall s n h) .table) (n .0) .held ≡ bitOr (bridgeAt t (n .0) .held) c)
+negotiation-gives t s n f g h l m d =
+    (d .second-number, d .second-status, d .second-control, d .taking-number, d .taking-status, d .taking-control, d .held-after)
+
+-- ---- what the definitions mean, and the lines of the document
+
+pub every-and-pair : (A : Type 0) (d : A) (l : List A)
+    → ((p : A → Bool) → every p l ≡ true ↔ ((i : ℕ) → i < length l → p (getD l i d) ≡ true))
+    × ((p : A → A → Bool) → pairwise p l ≡ true ↔ ((i j : ℕ) → i < j → j < length l → p (getD l i d) (getD l j d) ≡ true))
+every-and-pair = all-claims .every-and-pair
+
+pub granted-bits : (b : Bridge) (support requested i : ℕ) → bit (granted b support requested) i ≡ grantedBit b support requested i
+granted-bits = all-claims .granted-bits
+
+-- as many lines as there are, and all hold
+pub lines : AllHold sheet × (AllHold starts × AllHold run × AllHold searches × AllHold grants × AllHold places)
+lines = (all-claims .bench-sheet, all-claims .example-runs)
+
+pub how-many : (length sheet ≡ 12) × (length starts ≡ 25) × (length run ≡ 1) × (length searches ≡ 16) × (length grants ≡ 3) × (length places ≡ 13)
+how-many = (refl, refl, refl, refl, refl, refl)
