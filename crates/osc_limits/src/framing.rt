@@ -1,4 +1,4 @@
-// _OSC: framing, and the answers with an error status. Session 1 calls on bridge 0, which permits every bit.
+// _OSC: framing, and the answers with an error status. Every bit is permitted; bridge 0 holds control bit 1 and support bit 4.
 use crate::holds;
 use rules::BridgeNumber;
 use rules::SessionNumber;
@@ -25,7 +25,7 @@ fn answered(
     caps: &[u8],
     answer: &mut [u8],
 ) {
-    let t = fixtures::three_bridges(0x1f);
+    let t = fixtures::take(fixtures::three_bridges(0x1f), 0x10, 0x02);
     let n = BridgeNumber(bridge);
     let done = fixtures::osc(
         t,
@@ -97,6 +97,7 @@ fn uuid_but(at: usize) -> [u8; 16]
 fn callers() {
     print::text(b"(by: session, bridge, length of the UUID)\n");
     by(1, 0, &fixtures::UUID);
+    by(1, 2, &fixtures::UUID);
     by(2, 0, &fixtures::UUID);
     by(0, 3, &fixtures::UUID);
     by(1, 16, &fixtures::UUID);
@@ -124,6 +125,7 @@ fn lengths() {
     framed(16, 3, 13, 12);
     framed(16, 3, 12, 11);
     framed(16, 3, 12, 13);
+    framed(16, 3, 16, 16);
     framed(16, 0x4000_0003, 12, 12);
     framed(15, 4, 16, 16);
 }
@@ -133,10 +135,12 @@ fn errors() {
     print::text(b"(UUID right, wrong: revision, Count)\n");
     called(b"UUID in printed order", &PRINTED, 1, 3);
     called(b"UUID wrong at byte 0", &uuid_but(0), 1, 3);
+    called(b"UUID wrong at byte 4", &uuid_but(4), 1, 3);
+    called(b"UUID wrong at byte 8", &uuid_but(8), 1, 3);
     called(b"UUID wrong at byte 15", &uuid_but(15), 1, 3);
     called(b"UUID right", &fixtures::UUID, 0, 3);
     called(b"UUID right", &fixtures::UUID, 2, 3);
-    called(b"UUID right", &fixtures::UUID, 257, 3);
+    called(b"UUID right", &fixtures::UUID, 65537, 3);
     called(b"UUID right", &fixtures::UUID, 1, 2);
     called(b"UUID right", &fixtures::UUID, 1, 4);
 }

@@ -3,7 +3,7 @@ use crate::holds;
 use rules::BridgeNumber;
 use rules::SessionNumber;
 
-// A call, once the bits of `held` were taken.
+// A call, once the bits of `held` were taken with support bit 0.
 fn sent(permitted: u32, held: u32, status: u32, support: u32, control: u32) {
     print::hexes(
         b"sent",
@@ -15,7 +15,7 @@ fn sent(permitted: u32, held: u32, status: u32, support: u32, control: u32) {
             control as u64,
         ],
     );
-    let t = fixtures::take(fixtures::three_bridges(permitted), 0, held);
+    let t = fixtures::take(fixtures::three_bridges(permitted), 0x01, held);
     let mut answer = [0xaa; 12];
     let after = fixtures::right_call(t, status, support, control, &mut answer);
     print::bytes(b": answer", &answer);
@@ -102,21 +102,27 @@ fn flags() {
     sent(0x1f, 0, 0, 0x1f, 0x11);
     sent(0x1f, 0, 1, 0x1f, 0x11);
     sent(0x0f, 0, 1, 0, 0x1f);
+    sent(0x1f, 0x11, 1, 0, 0x01);
     sent(0x1f, 0, 3, 0x1f, 0x11);
     sent(0x1f, 0, 0xffff_fffe, 0x1f, 0x11);
+    sent(0x1f, 0, 0, 0x1f, 0);
     sent(0x1f, 0, 0, 0x20, 0x11);
     sent(0x1f, 0, 0, 0xffff_ffff, 0x11);
 }
 
 // "Reset and report 1, 2."
 fn callers() {
-    print::text(b"(reset, report: session, bridge)\n");
+    print::text(b"Reset and report\n(reset, report: session, bridge)\n");
     reset(1, 0);
+    reset(1, 2);
     reset(2, 0);
+    reset(1, 3);
     reset(0, 3);
     reset(1, 16);
     report(1, 0);
+    report(1, 2);
     report(2, 0);
+    report(1, 3);
     report(0, 3);
     report(1, 16);
 }

@@ -50,11 +50,16 @@ fn back(session: u8, address: u64) {
     print::end();
 }
 
-// "Address 1, 2, 5, 4.": the owner, another session, the first bridge beyond the table under the number that unused places have as owner, the first beyond the array; then several at once
+// "Address 1, 2, 5, 4." Bridge 3 is the first beyond the table, where the owner of an unused place is 0; 16 is the first beyond the array.
 fn orders() {
-    print::text(b"(address: session, bridge, bus, device, function, offset, width)\n");
+    print::text(
+        b"(address: session, bridge, bus, device, function, offset, width; bridge 0: session 1, buses 16 to 31; 1: session 2, 32 to 47; 2: session 1, 255)\n",
+    );
     asked(2, 1, 32, 0, 0, 0, 1);
+    asked(1, 2, 255, 0, 0, 0, 1);
     asked(1, 1, 32, 0, 0, 0, 1);
+    asked(17, 0, 16, 0, 0, 0, 1);
+    asked(0, 0, 16, 0, 0, 0, 1);
     asked(0, 3, 0, 0, 0, 0, 1);
     asked(1, 16, 16, 0, 0, 0, 1);
     asked(1, 3, 15, 32, 0, 0, 1);
@@ -80,7 +85,9 @@ fn parts() {
 fn widths() {
     place(16, 0, 0, 0, 0);
     place(16, 0, 0, 6, 3);
+    place(16, 0, 0, 0, 5);
     place(16, 0, 0, 0, 8);
+    place(16, 0, 0, 0, 16);
     place(16, 0, 0, 0, 257);
     place(16, 0, 0, 2, 2);
     place(16, 0, 0, 1, 2);
@@ -101,6 +108,7 @@ fn buses() {
 fn windows() {
     print::text(b"(back: session, address)\n");
     back(1, 0);
+    back(0, 0);
     back(1, 0xe0ff_ffff);
     back(1, 0xe100_0000);
     back(1, 0xe1ff_ffff);
@@ -108,12 +116,13 @@ fn windows() {
     back(2, 0xe1ff_ffff);
     back(2, 0xe200_0000);
     back(3, 0xe200_0000);
+    back(17, 0xe100_0000);
 }
 
 // On a bus that no row has; in a session's second bridge; beyond 32 bits; and the parts of an address.
 fn bits() {
     back(1, 0xe300_0000);
-    back(1, 0xe400_0000);
+    back(1, 0xeff0_0000);
     back(1, 0x1_e100_0000);
     back(1, 0xe110_0000);
     back(1, 0xe100_8000);

@@ -3,7 +3,7 @@ ghost use Prim.Native.Nat.{_≤_};
 ghost use lib.ListN.{length as List·length};
 
 // A record of each type, 23, 19 and 71 bytes, with every value at its limit.
-const LIMITS: [u8; 113] =
+pub const LIMITS: [u8; 113] =
     *b"\x00\x14\x00\x01\x00\x00\x00\xff\x00\x00\x00\xff\x00\x00\x00\x01\x00\x00\x00\x01\x00\x00\x00\x01\x10\x00\x01\x00\x00\x00\x03\x00\x00\x00\x07\x00\x00\x00\x07\x00\x00\x00\x02\x44\x00\x01\x00\x00\x00\xff\xff\xff\xff\xff\xff\xff\xff\xff\xff\xff\xff\xff\xff\xff\xff\xff\xff\xff\xff\xff\xff\xff\xff\xff\xff\xff\xff\xff\xff\xff\xff\xff\xff\x00\x00\xff\xff\x00\x00\xff\xff\x00\x00\xff\xff\x00\x00\xff\xff\xff\xff\xff\xff\xff\xff\xff\xff\xff\xff\xff\xff\xff\xff";
 
 // The number, and where the record lies in the deciding block.
@@ -31,8 +31,8 @@ fn dword(at: usize, value: u32, record_type: u32)
     search(b"", &b, record_type);
 }
 
-// Two fields with this tag and length, of revisions `first` and 1, and zeros.
-fn fields(tag: u8, length: u8, first: u8) -> [u8; 160]
+// Two fields with this tag and length, of these revisions, and zeros.
+fn fields(tag: u8, length: u8, first: u8, second: u8) -> [u8; 160]
     requires { ⌜ length ≤ 72 ⌝ }
 {
     let next = 3 + (length as usize);
@@ -42,7 +42,7 @@ fn fields(tag: u8, length: u8, first: u8) -> [u8; 160]
     b[3] = first;
     b[next] = tag;
     b[next + 1] = length;
-    b[next + 3] = 1;
+    b[next + 3] = second;
     b
 }
 
@@ -52,20 +52,23 @@ fn field(tag: u8, length: u8, revision: u8)
 {
     print::decimals(b"field", &[tag as u64, length as u64, revision as u64]);
     search_in(
-        &fields(tag, length, revision),
+        &fields(tag, length, revision, 0),
         3 + (length as usize),
         tag as u32,
     );
 }
 
-fn twice(tag: u8, length: u8, first: u8)
+fn twice(tag: u8, length: u8, first: u8, second: u8, record_type: u32)
     requires { ⌜ length ≤ 72 ⌝ }
 {
-    print::decimals(b"twice", &[tag as u64, length as u64, first as u64]);
+    print::decimals(
+        b"twice",
+        &[tag as u64, first as u64, second as u64, record_type as u64],
+    );
     search_in(
-        &fields(tag, length, first),
+        &fields(tag, length, first, second),
         6 + 2 * (length as usize),
-        tag as u32,
+        record_type,
     );
 }
 
@@ -88,52 +91,13 @@ fn blocks<'a>(words: &[u8], slot: &'a [u8], block: &'a [u8]) {
     search(slot, block, 1);
 }
 
-// "a type above 2 is never found"; "a revision other than 1 is skipped"
-fn types() {
-    print::text(
-        b"(dword of the block in which every value is at its limit: where, what; type looked for)\n",
-    );
-    dword(3, 1, 0);
-    dword(3, 1, 1);
-    dword(3, 1, 2);
-    dword(3, 1, 3);
-    dword(3, 1, 256);
-    dword(3, 0, 0);
-    dword(3, 257, 0);
-    dword(15, 2, 3);
-    dword(26, 2, 1);
-    dword(45, 2, 2);
-}
-
-// "type 0 cache line and latency at most 255, SERR and PERR 0 or 1; type 1 read count at most 3, both split counts at most 7"
-fn types_0_and_1() {
-    dword(7, 256, 0);
-    dword(11, 256, 0);
-    dword(15, 2, 0);
-    dword(15, 0, 0);
-    dword(19, 2, 0);
-    dword(19, 0, 0);
-    dword(30, 4, 0);
-    dword(34, 8, 0);
-    dword(38, 8, 0);
-}
-
-// "type 2 eight AND/OR pairs, those of Device Control and Link Control at most 65535"
-fn type_2() {
-    dword(81, 65536, 0);
-    dword(85, 65536, 0);
-    dword(89, 65536, 0);
-    dword(93, 65536, 0);
-}
-
-// "Tags above 2 are skipped whatever their value. Tags 0 to 2 need a length of at least 4, a multiple of 4; a revision other than 1 is skipped."
+// "Tags above 2 are skipped whatever their value. Tags 0 to 2 need a length of at least 4, a multiple of 4"
 fn tags() {
-    print::text(
-        b"(field, twice: tag, length, revision; the second's revision is 1; their type is looked for)\n",
-    );
+    print::text(b"(field: tag, length, revision; its type is looked for)\n");
     field(2, 3, 2);
     field(3, 3, 2);
     field(3, 4, 1);
+    field(255, 3, 2);
     field(0, 0, 0);
     field(0, 4, 2);
     field(1, 5, 2);
@@ -156,12 +120,64 @@ fn sizes() {
 
 // "at most once each"
 fn repeated() {
-    twice(0, 20, 1);
-    twice(0, 20, 2);
-    twice(1, 16, 1);
-    twice(1, 16, 2);
-    twice(2, 68, 1);
-    twice(2, 68, 2);
+    print::text(b"(twice: tag, revisions of the first and of the second; type looked for)\n");
+    twice(0, 20, 1, 1, 0);
+    twice(0, 20, 1, 1, 1);
+    twice(0, 20, 2, 1, 0);
+    twice(0, 20, 1, 2, 0);
+    twice(1, 16, 1, 1, 1);
+    twice(1, 16, 2, 1, 1);
+    twice(2, 68, 1, 1, 2);
+    twice(2, 68, 2, 1, 2);
+}
+
+// "a revision other than 1 is skipped"; "a type above 2 is never found"
+fn types() {
+    print::text(
+        b"(dword of a block with a record of each type and every value at its limit: where, what; type looked for)\n",
+    );
+    dword(3, 1, 0);
+    dword(3, 1, 1);
+    dword(3, 1, 2);
+    dword(3, 1, 3);
+    dword(3, 1, 65536);
+    dword(3, 0, 0);
+    dword(3, 65537, 0);
+    dword(26, 2, 1);
+    dword(45, 2, 2);
+}
+
+// "type 0 cache line and latency at most 255, SERR and PERR 0 or 1"
+fn type_0() {
+    dword(7, 256, 0);
+    dword(7, 65536, 0);
+    dword(11, 256, 0);
+    dword(11, 65536, 0);
+    dword(15, 2, 0);
+    dword(15, 256, 0);
+    dword(15, 0, 0);
+    dword(19, 2, 0);
+    dword(19, 256, 0);
+    dword(19, 0, 0);
+}
+
+// "type 1 read count at most 3, both split counts at most 7"
+fn type_1() {
+    dword(30, 4, 0);
+    dword(30, 256, 0);
+    dword(34, 8, 0);
+    dword(34, 256, 0);
+    dword(38, 8, 0);
+    dword(38, 256, 0);
+    dword(15, 2, 3);
+}
+
+// "type 2 eight AND/OR pairs, those of Device Control and Link Control at most 65535"
+fn type_2() {
+    dword(81, 65536, 0);
+    dword(85, 65536, 0);
+    dword(89, 65536, 0);
+    dword(93, 65536, 0);
 }
 
 // "A length running past the end, one or two bytes left over, or a block above 1024 bytes is unsound"
@@ -171,6 +187,16 @@ fn ends() {
     blocks(b"1 byte left over", b"", b"\x03\x00\x00\x03");
     blocks(b"2 bytes left over", b"", b"\x03\x00\x00\x03\x00");
     blocks(b"a second field", b"", b"\x03\x00\x00\x03\x00\x00");
+    blocks(
+        b"a record",
+        b"",
+        b"\x01\x10\x00\x01\x00\x00\x00\x00\x00\x00\x00\x00\x00\x00\x00\x00\x00\x00\x00",
+    );
+    blocks(
+        b"a record, 1 byte left over",
+        b"",
+        b"\x01\x10\x00\x01\x00\x00\x00\x00\x00\x00\x00\x00\x00\x00\x00\x00\x00\x00\x00\x03",
+    );
     filled(253);
     filled(254);
 }
@@ -198,12 +224,13 @@ fn deciding() {
 
 pub fn lines() {
     print::text(b"Record blocks\n");
-    types();
-    types_0_and_1();
-    type_2();
     tags();
     sizes();
     repeated();
+    types();
+    type_0();
+    type_1();
+    type_2();
     ends();
     deciding();
 }

@@ -1,5 +1,6 @@
 // Register values. Session 1 calls on bridge 0, which permits every bit. Register k, from 0, has the current value 0x80000fff + k x 0x1000; its AND mask is
 // 0xffffff00 + (k + 1) x 0x10, its OR mask 0x10000 + k + 1; of Device Control and Link Control, registers 4 and 5, the low halves.
+use crate::blocks::LIMITS;
 use rules::BridgeNumber;
 use rules::SessionNumber;
 use rules::Values;
@@ -39,30 +40,12 @@ fn current(k: usize, value: u32) -> [u32; 9]
 }
 
 // Session 1's call with the first `count` registers, once these bits of bridge 0 were taken.
-fn asked(control: u32, block: &[u8], current: &[u32], count: usize) -> Values
+fn asked<'a>(control: u32, slot: &'a [u8], block: &'a [u8], current: &[u32], count: usize) -> Values
     requires { ⌜ count ≤ List·length (now current) ⌝ }
 {
     let t = fixtures::take(fixtures::three_bridges(0x1f), 0, control);
     let s = SessionNumber(1);
-    bridges::register_values(t, s, BridgeNumber(0), b"", block, &current[..count])
-}
-
-// A session's call on a bridge, of which 0 alone holds bits 0 and 4; registers of 0.
-fn by(session: u8, bridge: u8, current: &[u32], block: &[u8]) {
-    print::decimals(
-        b"by",
-        &[
-            session as u64,
-            bridge as u64,
-            current.len() as u64,
-            block.len() as u64,
-        ],
-    );
-    let t = fixtures::take(fixtures::three_bridges(0x1f), 0, 0x11);
-    let s = SessionNumber(session);
-    let v = bridges::register_values(t, s, BridgeNumber(bridge), b"", block, current);
-    print::came(v.number);
-    print::end();
+    bridges::register_values(t, s, BridgeNumber(0), slot, block, &current[..count])
 }
 
 // The number, and the eight new values.
@@ -74,9 +57,25 @@ fn came(v: Values) {
     print::end();
 }
 
+// A session's call on a bridge, of which 0 alone holds bits 0 and 4; registers of 0.
+fn by(session: u8, bridge: u8, current: &[u32], block: &[u8]) {
+    print::decimals(
+        b"values",
+        &[
+            session as u64,
+            bridge as u64,
+            current.len() as u64,
+            block.len() as u64,
+        ],
+    );
+    let t = fixtures::take(fixtures::three_bridges(0x1f), 0, 0x11);
+    let s = SessionNumber(session);
+    came(bridges::register_values(t, s, BridgeNumber(bridge), b"", block, current));
+}
+
 fn held(control: u32) {
     print::hexes(b"held", &[control as u64]);
-    came(asked(control, &block(), &current(8, 0), 8));
+    came(asked(control, b"", &block(), &current(8, 0), 8));
 }
 
 // So many registers.
@@ -84,7 +83,7 @@ fn registers(count: usize)
     requires { ⌜ count ≤ 9 ⌝ }
 {
     print::decimals(b"registers", &[count as u64]);
-    came(asked(0x11, &block(), &current(8, 0), count));
+    came(asked(0x11, b"", &block(), &current(8, 0), count));
 }
 
 // Register k has this value.
@@ -93,12 +92,18 @@ fn register(k: usize, value: u32)
 {
     print::decimals(b"register", &[k as u64]);
     print::hexes(b"", &[value as u64]);
-    came(asked(0x11, &block(), &current(k, value), 8));
+    came(asked(0x11, b"", &block(), &current(k, value), 8));
+}
+
+// These blocks.
+fn blocks<'a>(words: &[u8], slot: &'a [u8], block: &'a [u8]) {
+    print::text(words);
+    came(asked(0x11, slot, block, &current(8, 0), 8));
 }
 
 // "Register values 1, 2, 11, 10, 8, 9." A block of 1 byte is not sound, the one of 3 has a field that is skipped.
 fn orders() {
-    print::text(b"(by: session, bridge, number of registers, bytes of the block)\n");
+    print::text(b"(values: session, bridge, number of registers, bytes of the block)\n");
     by(1, 0, &[0; 8], b"\x03\x00\x00");
     by(1, 0, &[0; 8], b"\x03");
     by(1, 0, &[0; 7], b"\x03\x00\x00");
@@ -106,6 +111,7 @@ fn orders() {
     by(2, 1, &[0; 7], b"\x03\x00\x00");
     by(2, 1, &[0; 7], b"\x03");
     by(1, 1, &[0; 7], b"\x03");
+    by(1, 3, &[0; 7], b"\x03");
     by(2, 0, &[0; 7], b"\x03");
     by(0, 3, &[0; 7], b"\x03");
     by(1, 16, &[0; 7], b"\x03");
@@ -134,10 +140,22 @@ fn lists() {
     register(6, 0xffff_ffff);
 }
 
+// "The type 2 record is used", that of the deciding block
+fn deciding() {
+    blocks(b"slot's has the record", &block(), b"");
+    blocks(
+        b"slot's has no record, bridge's has it",
+        b"\x03\x00\x00",
+        &block(),
+    );
+    blocks(b"record behind others", b"", &LIMITS);
+}
+
 pub fn lines() {
     print::text(b"Register values\n");
     orders();
     print::text(b"(held: control bits; registers: their number; register: which, what)\n");
     control();
     lists();
+    deciding();
 }

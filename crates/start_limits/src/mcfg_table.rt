@@ -37,6 +37,14 @@ fn sum(more: u8) {
     given(with_sum(more), 60);
 }
 
+// The table of 44 bytes, with this checksum: the others sum to 330.
+fn checksum(value: u8) {
+    print::decimals(b"checksum", &[value as u64]);
+    let mut m = fixtures::mcfg(0, 0, 0, 0);
+    m[9] = value;
+    given(m, 44);
+}
+
 // The length field, and so many bytes: zeros behind the header.
 fn length(field: u32, lent: usize)
     requires { ⌜ lent ≤ 1324 ⌝ }
@@ -83,24 +91,17 @@ fn third(segment: u16, base: u64, first: u8, last: u8) {
     given(m, 92);
 }
 
-// "the four letters are there"; "revision 1"; "Reserved bytes are ignored", and no rule names the header's bytes from 10 on
-fn bytes() {
+// "the four letters are there"
+fn letters() {
     print::text(b"(byte: where, what)\n");
+    byte(0, b'M');
     byte(0, b'N');
     byte(1, b'D');
     byte(2, b'G');
     byte(3, b'H');
-    byte(8, 0);
-    byte(8, 1);
-    byte(8, 2);
-    byte(8, 3);
-    byte(10, 255);
-    byte(36, 255);
-    byte(43, 255);
-    byte(59, 255);
 }
 
-// "at least 44 bytes are lent; length field equals the lent length"; "0 to 16 whole entries"
+// "at least 44 bytes are lent; length field equals the lent length"
 fn lengths() {
     print::text(b"(length: length field, bytes lent)\n");
     length(44, 44);
@@ -110,20 +111,36 @@ fn lengths() {
     length(43, 44);
     length(45, 44);
     length(65580, 44);
-    length(60, 60);
-    length(59, 59);
-    length(61, 61);
+    length(16777260, 44);
 }
 
-// "all bytes sum to a multiple of 256"; "0 to 16 whole entries"
-fn sums_and_entries() {
-    print::text(b"(sum: sum of all bytes; entries: number of entries)\n");
+// "revision 1; all bytes sum to a multiple of 256"
+fn revisions_and_sums() {
+    print::text(
+        b"(byte: where, what; sum: sum of all bytes; checksum: of the table of 44 bytes)\n",
+    );
+    byte(8, 1);
+    byte(8, 0);
+    byte(8, 2);
+    byte(8, 3);
     sum(0);
     sum(1);
     sum(128);
+    checksum(182);
+    checksum(181);
+}
+
+// "0 to 16 whole entries"
+fn whole_entries() {
+    print::text(b"(entries: how many; length: length field, bytes lent)\n");
     entries(0);
     entries(16);
     entries(17);
+    length(48, 48);
+    length(52, 52);
+    length(59, 59);
+    length(60, 60);
+    length(61, 61);
 }
 
 // "start not above end; base a multiple of 2^20; base + (end + 1) x 2^20 at most 2^64"
@@ -142,10 +159,11 @@ fn single() {
 // "entries of one segment share no bus"
 fn shared_buses() {
     print::text(
-        b"(third entry: base, segment, start bus, end bus; the first: 0xe0000000 0 16 31)\n",
+        b"(third entry: base, segment, start bus, end bus; the first: 0xe0000000 0 16 31; the second: 0x0 2 0 0)\n",
     );
     third(0, 0x4000_0000, 15, 15);
     third(0, 0x4000_0000, 16, 16);
+    third(0, 0x4000_0000, 20, 21);
     third(0, 0x4000_0000, 31, 31);
     third(0, 0x4000_0000, 32, 32);
     third(0, 0x4000_0000, 1, 255);
@@ -154,24 +172,41 @@ fn shared_buses() {
     third(2, 0x4000_0000, 0, 0);
 }
 
-// "the address windows .. share no byte between any two entries"
+// "the address windows .. share no byte between any two entries"; and a third entry that breaks a rule by itself
 fn shared_bytes() {
     third(1, 0xe000_0000, 0, 15);
     third(1, 0xe010_0000, 0, 15);
     third(1, 0xe200_0000, 0, 15);
     third(1, 0xe1f0_0000, 0, 15);
     third(1, 0xe140_0000, 0, 0);
+    third(0, 0xe140_0000, 0, 0);
+    third(1, 0x1_e140_0000, 0, 0);
     third(1, 0xe140_0000, 12, 12);
     third(1, 0xe000_0000, 0, 255);
     third(1, 0, 0, 0);
+    third(1, 0x4008_0000, 0, 0);
+    third(1, 0x4000_0000, 5, 4);
+}
+
+// "Reserved bytes are ignored", and no rule names the header's bytes from 10 on
+fn reserved() {
+    print::text(b"(byte: where, what)\n");
+    byte(10, 255);
+    byte(36, 255);
+    byte(40, 255);
+    byte(43, 255);
+    byte(56, 255);
+    byte(59, 255);
 }
 
 pub fn lines() {
     print::text(b"The MCFG table\n");
-    bytes();
+    letters();
     lengths();
-    sums_and_entries();
+    revisions_and_sums();
+    whole_entries();
     single();
     shared_buses();
     shared_bytes();
+    reserved();
 }

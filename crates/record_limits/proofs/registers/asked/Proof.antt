@@ -6,12 +6,12 @@ use borrow.Author.Needs.{needs}
 use Rattle.record_limits.proofs.registers.asked.Statement.{statement}
 use Rattle.record_limits.proofs.registers.asked.Tie as tie
 
-slice-aggregate-register-values-2 : tie.Need-slice-aggregate-register-values-2
-slice-aggregate-register-values-2 c =
+slice-aggregate-register-values : tie.Need-slice-aggregate-register-values
+slice-aggregate-register-values c =
     let a = c .before .before .before .before .before .before in
     sym (length-take-le (a .args .count) (now (a .args .current)) (a .pre))
 
 pub asked-spec : {M : Type 1} → statement M
 asked-spec =
     tie.close
-    (tie.spec (λ c κs. search needs) (λ c κs. search needs) (λ c. search needs) slice-aggregate-register-values-2 (λ c κs. search needs) (λ c. search needs))
+    (tie.spec (λ c κs. search needs) (λ c κs. search needs) slice-aggregate-register-values (λ c κs. search needs) (λ c. search needs))
