@@ -125,6 +125,8 @@ fn lengths() {
     framed(16, 3, 13, 12);
     framed(16, 3, 12, 11);
     framed(16, 3, 12, 13);
+    framed(16, 3, 16, 12);
+    framed(16, 3, 12, 16);
     framed(16, 3, 16, 16);
     framed(16, 0x4000_0003, 12, 12);
     framed(15, 4, 16, 16);
