@@ -16,31 +16,30 @@ pub fn hex(before: &[u8], n: u64, width: usize) {
     io::print_hex(1, n, width);
 }
 
-fn number(n: u64) {
-    decimal(b" ", n);
+fn number(n: u64, in_hex: bool) {
+    if in_hex {
+        hex(b" ", n, 1);
+    } else {
+        decimal(b" ", n);
+    }
 }
 
-fn number_in_hex(n: u64) {
-    hex(b" ", n, 1);
+fn numbers(words: &[u8], n: &[u64], in_hex: bool) {
+    text(words);
+    let mut i = 0;
+    while i < n.len() {
+        number(n[i], in_hex);
+        i += 1;
+    }
 }
 
 // Words, and numbers behind them, each with a space before it.
 pub fn decimals(words: &[u8], n: &[u64]) {
-    text(words);
-    let mut i = 0;
-    while i < n.len() {
-        number(n[i]);
-        i += 1;
-    }
+    numbers(words, n, false);
 }
 
 pub fn hexes(words: &[u8], n: &[u64]) {
-    text(words);
-    let mut i = 0;
-    while i < n.len() {
-        number_in_hex(n[i]);
-        i += 1;
-    }
+    numbers(words, n, true);
 }
 
 fn byte(n: u8) {
