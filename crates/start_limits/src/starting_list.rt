@@ -45,6 +45,13 @@ fn rows(sum: u8, count: usize) {
     ));
 }
 
+// Such a table, and a row of this owner.
+fn both(sum: u8, owner: u8) {
+    print::decimals(b"both", &[sum as u64, owner as u64]);
+    let rows = [fixtures::row(owner, 16, 31, 0); LIST_ROWS];
+    came(fixtures::start_on(&mcfg_table::with_sum(sum), 60, rows, 1));
+}
+
 // One row for bus 16 of segment 0.
 fn one(owner: u8, kind: u8, permitted: u32) {
     print::decimals(b"row", &[owner as u64, kind as u64]);
@@ -98,13 +105,15 @@ fn third(bus: u8, segment: u16, first: u8, last: u8) {
 // "Start 6, 7."; "0 to 16 rows; owner not above 15"
 fn rows_and_owners() {
     print::text(
-        b"(rows: sum of the MCFG table, number of rows; row: owner, kind, permitted bits)\n",
+        b"(rows: sum of the MCFG table, number of rows; both: that sum, owner of a row; row: owner, kind, permitted bits)\n",
     );
     rows(0, 0);
     rows(0, 16);
     rows(0, 17);
     rows(1, 16);
     rows(1, 17);
+    both(0, 16);
+    both(1, 16);
     one(0, EXPRESS, 0x1f);
     one(15, EXPRESS, 0x1f);
     one(16, EXPRESS, 0x1f);
