@@ -1,4 +1,4 @@
-// The bench sheet of document 01, line by line in its order, through the calls. P permitted, H held, R requested, G granted.
+// The bench sheet of document 01, its fourth line as document 02, b, has it, line by line in its order, through the calls. P permitted, H held, R requested, G granted.
 use print::bytes;
 use print::decimal;
 use print::end;

@@ -100,7 +100,7 @@ fn needs_met(available: u32) -> u32
 pub fn granted_bits(b: Bridge, support: u32, requested: u32) -> u32
     ensures { λ r. ⌜ r ≡ grantedOf b support requested ⌝ }
 {
-    let met = needs_met(b.held | (requested & b.permitted));
+    let met = needs_met(requested & (b.held | b.permitted));
     requested & KNOWN_CONTROL & (b.held | (b.permitted & met))
 }
 

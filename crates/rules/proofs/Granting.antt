@@ -6,7 +6,7 @@ use mathlib.Core.Bool.{Bool, true, false, _&&_, _||_, false≢true, true≢false
 use Prim.Native.Nat.{ℕ, zero, suc, _^_, _≤_, _<_}
 use native.Mathlib.Omega.{arith}
 use borrow.Author.Tests.{eq-eqb}
-use lib.Bits.{bitAnd, and-zero-l}
+use lib.Bits.{bitAnd, bitOr, and-zero-l}
 use lib.ListN.{getD}
 use Rattle.rules.specs.Numbers.{bit, within}
 use Rattle.rules.specs.Osc.{controlNeeds, knownControl, available, grantedBit, granted}
@@ -78,18 +78,17 @@ module _ (b : Bridge) (w r : ℕ) where
   abbrev may : ℕ → ℕ → Bool
   may q i = bit (b .held) i || (bit (b .permitted) i && within (needs i) (available b q))
 
+  -- bit 4, which needs nothing, is granted where it is available
   available-4 : bit (available b r) 4 ≡ true → bit (available b g) 4 ≡ true
   available-4 e =
-      bit-or (b .held) (bitAnd g (b .permitted)) 4
-      ∙ go (or-true (bit (b .held) 4) (bit (bitAnd r (b .permitted)) 4) (sym (bit-or (b .held) (bitAnd r (b .permitted)) 4) ∙ e))
+      let p = and-true (bit r 4) (bit (bitOr (b .held) (b .permitted)) 4) (sym (bit-and r (bitOr (b .held) (b .permitted)) 4) ∙ e) in
+      let m : may r 4 ≡ true = may-4 (or-true (bit (b .held) 4) (bit (b .permitted) 4) (sym (bit-or (b .held) (b .permitted) 4) ∙ p .1)) in
+      bit-and g (bitOr (b .held) (b .permitted)) 4
+      ∙ and-is (granted-bit b w r 4 ∙ and-is (and-is (p .0) known-4) m) (p .1)
     where
-      go : (bit (b .held) 4 ≡ true) ⊎ (bit (bitAnd r (b .permitted)) 4 ≡ true) → (bit (b .held) 4 || bit (bitAnd g (b .permitted)) 4) ≡ true
-      go (inl h) = or-left (bit (b .held) 4) (bit (bitAnd g (b .permitted)) 4) h
-      go (inr q) =
-          let p = and-true (bit r 4) (bit (b .permitted) 4) (sym (bit-and r (b .permitted) 4) ∙ q) in
-          let k : bit g 4 ≡ true = granted-bit b w r 4 ∙ and-is (and-is (p .0) known-4)
-          (or-right (bit (b .held) 4) (bit (b .permitted) 4 && within 0 (available b r)) (and-is (p .1) (zero-within (available b r)))) in
-          or-right (bit (b .held) 4) (bit (bitAnd g (b .permitted)) 4) (bit-and g (b .permitted) 4 ∙ and-is k (p .1))
+      may-4 : (bit (b .held) 4 ≡ true) ⊎ (bit (b .permitted) 4 ≡ true) → may r 4 ≡ true
+      may-4 (inl h) = or-left (bit (b .held) 4) (bit (b .permitted) 4 && within 0 (available b r)) h
+      may-4 (inr q) = or-right (bit (b .held) 4) (bit (b .permitted) 4 && within 0 (available b r)) (and-is q (zero-within (available b r)))
 
   needs-met : (i : ℕ) → within (needs i) (available b r) ≡ true → within (needs i) (available b g) ≡ true
   needs-met i e = go (needs-is i)

@@ -218,13 +218,16 @@ searches =
     ∷ (findRecord [] (0x03 ∷ 0xFE ∷ 0x03 ∷ replicate 1022 0) 0 gives found 8 0 0)
     ∷ []
 
--- ---- grants beyond the sheet: a held bit that is not permitted, and bit 3 that is not; a bit above 4; bits 0 to 2 that are not permitted, with status and support of all bits
+-- ---- grants beyond the sheet: a held bit that is not permitted, and bit 3 that is not; a bit above 4; bits 0 to 2 that are not permitted, with status and support of all bits;
+-- document 02, b: a held bit 0 asked for again without bit 4; bit 0 with a bit 4 that is held and not permitted
 
 abbrev pub grants : List Line
 grants =
     (oscOn 0x15 0x02 (0 ∷ 0 ∷ 0 ∷ 0 ∷ 0 ∷ 0 ∷ 0 ∷ 0 ∷ 0x1A ∷ 0 ∷ 0 ∷ 0 ∷ []) gives record { answer = 0x10 ∷ 0 ∷ 0 ∷ 0 ∷ 0 ∷ 0 ∷ 0 ∷ 0 ∷ 0x12 ∷ 0 ∷ 0 ∷ 0 ∷ []; held = 0x12 })
     ∷ (oscOn 0x1F 0 (0 ∷ 0 ∷ 0 ∷ 0 ∷ 0 ∷ 0 ∷ 0 ∷ 0 ∷ 0 ∷ 0 ∷ 0 ∷ 0x80 ∷ []) gives record { answer = 0x10 ∷ 0 ∷ 0 ∷ 0 ∷ 0 ∷ 0 ∷ 0 ∷ 0 ∷ 0 ∷ 0 ∷ 0 ∷ 0 ∷ []; held = 0 })
     ∷ (oscOn 0x18 0 (0xFE ∷ 0xFF ∷ 0xFF ∷ 0xFF ∷ 0xEF ∷ 0xBE ∷ 0xAD ∷ 0xDE ∷ 0x1F ∷ 0 ∷ 0 ∷ 0 ∷ []) gives record { answer = 0x10 ∷ 0 ∷ 0 ∷ 0 ∷ 0xEF ∷ 0xBE ∷ 0xAD ∷ 0xDE ∷ 0x18 ∷ 0 ∷ 0 ∷ 0 ∷ []; held = 0x18 })
+    ∷ (oscOn 0x1F 0x11 (0 ∷ 0 ∷ 0 ∷ 0 ∷ 0 ∷ 0 ∷ 0 ∷ 0 ∷ 0x01 ∷ 0 ∷ 0 ∷ 0 ∷ []) gives record { answer = 0 ∷ 0 ∷ 0 ∷ 0 ∷ 0 ∷ 0 ∷ 0 ∷ 0 ∷ 0x01 ∷ 0 ∷ 0 ∷ 0 ∷ []; held = 0x11 })
+    ∷ (oscOn 0x01 0x10 (0 ∷ 0 ∷ 0 ∷ 0 ∷ 0 ∷ 0 ∷ 0 ∷ 0 ∷ 0x11 ∷ 0 ∷ 0 ∷ 0 ∷ []) gives record { answer = 0 ∷ 0 ∷ 0 ∷ 0 ∷ 0 ∷ 0 ∷ 0 ∷ 0 ∷ 0x11 ∷ 0 ∷ 0 ∷ 0 ∷ []; held = 0x11 })
     ∷ []
 
 -- ---- refusals 5 and 4 of a place

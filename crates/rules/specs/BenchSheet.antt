@@ -55,9 +55,9 @@ sheet =
     -- P 0x0F, H 0, R 0x1F: G 0x02, status 0x10
     ∷ (oscOn 0x0F 0 (0 ∷ 0 ∷ 0 ∷ 0 ∷ 0 ∷ 0 ∷ 0 ∷ 0 ∷ 0x1F ∷ 0 ∷ 0 ∷ 0 ∷ [])
     gives record { answer = 0x10 ∷ 0 ∷ 0 ∷ 0 ∷ 0 ∷ 0 ∷ 0 ∷ 0 ∷ 0x02 ∷ 0 ∷ 0 ∷ 0 ∷ []; held = 0x02 })
-    -- P 0x1F, H 0x10, R 0x01: G 0x01, status 0, H 0x11
+    -- P 0x1F, H 0x10, R 0x01: G 0, status 0x10, H 0x10 (document 02, b)
     ∷ (oscOn 0x1F 0x10 (0 ∷ 0 ∷ 0 ∷ 0 ∷ 0 ∷ 0 ∷ 0 ∷ 0 ∷ 0x01 ∷ 0 ∷ 0 ∷ 0 ∷ [])
-    gives record { answer = 0 ∷ 0 ∷ 0 ∷ 0 ∷ 0 ∷ 0 ∷ 0 ∷ 0 ∷ 0x01 ∷ 0 ∷ 0 ∷ 0 ∷ []; held = 0x11 })
+    gives record { answer = 0x10 ∷ 0 ∷ 0 ∷ 0 ∷ 0 ∷ 0 ∷ 0 ∷ 0 ∷ 0 ∷ 0 ∷ 0 ∷ 0 ∷ []; held = 0x10 })
     -- P 0x1F, H 0, R 0x3F: G 0x1F, status 0x10
     ∷ (oscOn 0x1F 0 (0 ∷ 0 ∷ 0 ∷ 0 ∷ 0 ∷ 0 ∷ 0 ∷ 0 ∷ 0x3F ∷ 0 ∷ 0 ∷ 0 ∷ [])
     gives record { answer = 0x10 ∷ 0 ∷ 0 ∷ 0 ∷ 0 ∷ 0 ∷ 0 ∷ 0 ∷ 0x1F ∷ 0 ∷ 0 ∷ 0 ∷ []; held = 0x1F })

@@ -27,12 +27,12 @@ knownControl = 0x1F
 abbrev pub knownSupport : ℕ
 knownSupport = 0x1F
 
--- bits "already held", or "requested and permitted in this call"
+-- document 02, b: the bits "requested in the same call" that are "held or permitted"
 abbrev pub available : Bridge → ℕ → ℕ
-available b requested = bitOr (b .held) (bitAnd requested (b .permitted))
+available b requested = bitAnd requested (bitOr (b .held) (b .permitted))
 
--- "a requested control bit is granted when it is 0 to 4 and either already held, or permitted and, for bits 0, 2 and 3,
--- bit 4 is already held or is requested and permitted in this call"; the support DWORD does not count
+-- "a requested control bit is granted when it is 0 to 4 and either already held, or permitted and, for bits 0, 2 and 3", document 02, b:
+-- "only if bit 4 is requested in the same call and is held or permitted"; the support DWORD does not count
 abbrev pub grantedBit : Bridge → (support requested i : ℕ) → Bool
 grantedBit b support requested i =
     bit requested i && bit knownControl i

@@ -5,8 +5,7 @@ use Rattle.osc.proofs.granted_bits.Statement.{statement}
 use Rattle.osc.proofs.granted_bits.Tie as tie
 
 returns : tie.Need-returns
-returns c =
-    by-masks (c .before .before .before .before .before .args .b) (c .before .before .before .before .before .args .support) (c .before .before .before .before .before .args .requested) (c .before .before .needs-met .result) (c .before .before .needs-met .ensures)
+returns c = by-masks _ _ _ _ (c .before .before .needs-met .ensures)
 
 pub granted-bits-spec : {M : Type 1} → statement M
 granted-bits-spec = tie.close (tie.spec (λ c κs. search needs) returns)
