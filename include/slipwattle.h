@@ -26,9 +26,9 @@ extern "C" {
 #endif
 
 #define SLIPWATTLE_VERSION_MAJOR 0
-#define SLIPWATTLE_VERSION_MINOR 2
+#define SLIPWATTLE_VERSION_MINOR 3
 #define SLIPWATTLE_VERSION_PATCH 0
-#define SLIPWATTLE_VERSION "0.2.0"
+#define SLIPWATTLE_VERSION "0.3.0"
 
 /* The most rows of a starting list (a table has a bridge for each), and the registers of a type 2 record. */
 #define SLIPWATTLE_MAX_ROWS 16
@@ -105,7 +105,9 @@ static const uint8_t SLIPWATTLE_OSC_UUID[16] = {0x5B, 0x4D, 0xDB, 0x33, 0xF7, 0x
 #define SLIPWATTLE_STATUS_UNKNOWN_REVISION 0x08u
 #define SLIPWATTLE_STATUS_MASKED 0x10u
 
-/* The third DWORD: the control bits, 0 to 4, and all five. */
+/* The third DWORD: the control bits, 0 to 4, and all five. A bit that is asked for is granted if it is held or permitted; but Express hot
+ * plug, PME or AER, where not held yet, only if the same call also asks for the Express capability structure, and that is held or
+ * permitted. */
 #define SLIPWATTLE_CONTROL_EXPRESS_HOT_PLUG 0x01u
 #define SLIPWATTLE_CONTROL_SHPC_HOT_PLUG 0x02u
 #define SLIPWATTLE_CONTROL_PME 0x04u

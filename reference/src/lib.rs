@@ -1,7 +1,8 @@
-//! Document 01 in ordinary Rust: what the random trials and the timings compare with.
+//! The documents in ordinary Rust: what the random trials and the timings compare with.
 //!
-//! It shares nothing with the proved program but the document, whose sections the modules follow, and the numbers of the two kinds of bridge, 0 and 1. Imports go one way: `bridge` is what
-//! the table keeps, others above it work on one bridge, and `table` is on top.
+//! It shares nothing with the proved program but the documents (the modules follow the sections of document 01) and the numbers of the
+//! two kinds of bridge, 0 and 1. Imports go one way: `bridge` is what the table keeps, others above it work on one bridge, and `table`
+//! is on top.
 #![no_std]
 #![forbid(unsafe_code)]
 

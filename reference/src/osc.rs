@@ -34,13 +34,13 @@ pub(crate) const AER: u32 = 1 << 3;
 const EXPRESS_CAPABILITY: u32 = 1 << 4;
 /// Bits 0 to 4: the known control bits, and the known support bits as well.
 pub(crate) const KNOWN_BITS: u32 = 0x1F;
-/// The control bits that need the Express capability structure.
+/// The control bits that need the Express capability structure asked for in the same call, unless they are held already.
 const DEPENDENT: u32 = EXPRESS_HOT_PLUG | PME | AER;
 
 /// The requested bits that are granted.
 #[inline]
 pub fn granted(permitted: u32, held: u32, requested: u32) -> u32 {
-    let capability = (held | (requested & permitted)) & EXPRESS_CAPABILITY != 0;
+    let capability = requested & (held | permitted) & EXPRESS_CAPABILITY != 0;
     let grantable = if capability {
         permitted
     } else {

@@ -20,13 +20,14 @@ pub const STATUS_UNKNOWN_REVISION: u32 = 0x08;
 /// In the answer's first DWORD: a requested control bit is not granted.
 pub const STATUS_MASKED: u32 = 0x10;
 
-/// Control bit 0: Express hot plug.
+/// Control bit 0: Express hot plug. Where it is not held yet, it is granted only if the same call also asks for
+/// [`CONTROL_EXPRESS_CAPABILITY`], and that is held or permitted.
 pub const CONTROL_EXPRESS_HOT_PLUG: u32 = 0x01;
 /// Control bit 1: SHPC hot plug.
 pub const CONTROL_SHPC_HOT_PLUG: u32 = 0x02;
-/// Control bit 2: PME.
+/// Control bit 2: PME. It is granted as [`CONTROL_EXPRESS_HOT_PLUG`] is.
 pub const CONTROL_PME: u32 = 0x04;
-/// Control bit 3: AER.
+/// Control bit 3: AER. It is granted as [`CONTROL_EXPRESS_HOT_PLUG`] is.
 pub const CONTROL_AER: u32 = 0x08;
 /// Control bit 4: the Express capability structure.
 pub const CONTROL_EXPRESS_CAPABILITY: u32 = 0x10;

@@ -73,7 +73,7 @@ impl Table {
     ///
     /// ```
     #[doc = include_str!("example_start.txt")]
-    /// // PME is granted only with the Express capability structure.
+    /// // PME that is not held yet is granted only in a call that also asks for the Express capability structure.
     /// let take = [0, 0, CONTROL_PME].map(u32::to_le_bytes);
     /// let mut answer = [[0; 4]; 3];
     /// let (capabilities, filled) = (take.as_flattened(), answer.as_flattened_mut());

@@ -1,4 +1,4 @@
-//! The calls and their refusals, whose words tests/header.rs compares. What is expected is worked out from document 01.
+//! The calls and their refusals, whose words tests/header.rs compares. What is expected is worked out from the documents.
 mod fixture;
 
 use fixture::mcfg;
@@ -142,6 +142,17 @@ fn osc_has_the_named_bits() {
     assert_eq!(status(2, 4, &OSC_UUID), STATUS_UNKNOWN_REVISION);
     assert_eq!(status(revision, 4, &OSC_UUID), STATUS_FAILURE);
     assert_eq!(status(revision, count, &OSC_UUID), STATUS_MASKED);
+}
+
+#[test]
+fn aer_is_taken_in_one_call_with_the_capability_structure() {
+    let mut table = taken(CONTROL_EXPRESS_CAPABILITY);
+    let aer = [0, 0, CONTROL_AER];
+    assert_eq!(osc(&mut table, aer), [STATUS_MASKED, 0, 0]);
+    let both = [0, 0, CONTROL_AER | CONTROL_EXPRESS_CAPABILITY];
+    assert_eq!(osc(&mut table, both), both);
+    // Held, it is granted again by itself.
+    assert_eq!(osc(&mut table, aer), aer);
 }
 
 #[test]

@@ -1,6 +1,6 @@
 /* The eight calls from C: numbers, results, buffers and tables as include/slipwattle.h promises them, on either side of the limits of rows, framing, places, buses
  * and the register list.
- * Compiled as C11 and as C++17. What is expected is worked out from document 01. */
+ * Compiled as C11 and as C++17. What is expected is worked out from the documents. */
 #include <assert.h>
 #include <stdio.h>
 #include <stdlib.h>
@@ -248,7 +248,12 @@ static void negotiates(slipwattle_table *t) {
     CHECK(osc(t, 1, 0, SLIPWATTLE_QUERY_FLAG, all, answer) == 0 && memcmp(answer, granted, 12) == 0);
     CHECK(same_table(t, &before));
     CHECK(osc(t, 1, 0, 0, no_capability, answer) == 0 && answer[0] == SLIPWATTLE_STATUS_MASKED && answer[8] == 0);
+    /* A capability structure held from earlier is not enough for a new bit. */
+    CHECK(osc(t, 1, 0, 0, SLIPWATTLE_CONTROL_EXPRESS_CAPABILITY, answer) == 0 && answer[0] == 0);
+    CHECK(osc(t, 1, 0, 0, no_capability, answer) == 0 && answer[0] == SLIPWATTLE_STATUS_MASKED && answer[8] == 0);
     CHECK(osc(t, 1, 0, 0, all, answer) == 0 && memcmp(answer, granted, 12) == 0);
+    /* A held bit is granted without it. */
+    CHECK(osc(t, 1, 0, 0, no_capability, answer) == 0 && answer[0] == 0 && answer[8] == no_capability);
     r = slipwattle_report(t, session(1), bridge(0));
     CHECK(r.number == 0 && r.holding.held == all && r.holding.supported == 0x1F);
 }

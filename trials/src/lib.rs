@@ -1,4 +1,4 @@
-//! Random trials and exhaustive comparisons of the proved library with the reference implementation of document 01.
+//! Random trials and exhaustive comparisons of the proved library with the reference implementation.
 
 pub mod blocks;
 pub mod buffer;

@@ -34,8 +34,8 @@ fn bit_4_forbidden() {
 }
 
 #[test]
-fn bit_4_held() {
-    granting(0x1F, 0x10, 0x01, (0x01, 0, 0x11));
+fn bit_4_held_and_not_asked_for() {
+    granting(0x1F, 0x10, 0x01, (0, 0x10, 0x10));
 }
 
 #[test]

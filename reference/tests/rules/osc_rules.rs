@@ -72,11 +72,11 @@ fn every_byte_of_the_uuid_counts() {
     }
 }
 
-/// The granting rule bit by bit, as the document words it.
+/// The granting rule bit by bit, as document 01 words it with what document 02, b, says of bit 4.
 fn worded(permitted: u32, held: u32, requested: u32) -> u32 {
     let has = |bits: u32, bit: u32| bits & (1 << bit) != 0;
     let granted = (0..5).filter(|&bit| {
-        let bit_4 = has(held, 4) || (has(requested, 4) && has(permitted, 4));
+        let bit_4 = has(requested, 4) && (has(held, 4) || has(permitted, 4));
         let free = !matches!(bit, 0 | 2 | 3);
         has(requested, bit) && (has(held, bit) || (has(permitted, bit) && (free || bit_4)))
     });
@@ -101,7 +101,7 @@ fn status_support_and_high_bits() {
         supported: 0x1B,
     };
     assert_eq!(table.report(OWNER, BRIDGE), Ok(taken));
-    assert_eq!(osc(&mut table, !0, 4, 1), [0, 4, 1]);
+    assert_eq!(osc(&mut table, !0, 4, 0x11), [0, 4, 0x11]);
     assert_eq!(table.report(OWNER, BRIDGE), Ok(taken));
     assert_eq!(osc(&mut table, 2, 4, 0), [0, 4, 0]);
     assert_eq!(table.report(OWNER, BRIDGE).unwrap().supported, 0x1F);

@@ -6,19 +6,9 @@ use trials::mcfg;
 use trials::requests::{PRINTED_UUID, UUID};
 use trials::service::Service;
 
-use crate::wrong::{Wrong, found, found_exhaustively, pair, short_names};
+use crate::wrong::{Wrong, dword, found, found_exhaustively, judged, pair, short_names};
 
 const AER: u32 = 1 << 3;
-
-fn little_endian(bytes: &[u8], index: usize) -> u32 {
-    let (words, _) = bytes.as_chunks::<4>();
-    u32::from_le_bytes(words[index])
-}
-
-/// Whether the call was a right one, by its answer.
-fn judged(given: Given, answer: &[u8]) -> bool {
-    given.number == 0 && matches!(answer[0], 0x00 | 0x10)
-}
 
 fn drops_held_bits(wrong: &mut Wrong, call: &mut Call) -> Given {
     let mut given = wrong.reference.call(call);
@@ -30,7 +20,7 @@ fn drops_held_bits(wrong: &mut Wrong, call: &mut Call) -> Given {
         Call::Osc(osc)
             if judged(given, osc.answer.lent()) && osc.capabilities.lent()[0] & 1 == 0 =>
         {
-            let granted = little_endian(osc.answer.lent(), 2);
+            let granted = dword(osc.answer.lent(), 2);
             wrong.granted.insert(osc.bridge, granted);
         }
         Call::Report(report) if given.number == 0 => {
@@ -116,7 +106,7 @@ fn grants_hot_plug_with_a_forbidden_bit_4(wrong: &mut Wrong, call: &mut Call) ->
         && judged(given, osc.answer.lent())
     {
         let row = start.rows.lent()[usize::from(osc.bridge)];
-        let requested = little_endian(osc.capabilities.lent(), 2);
+        let requested = dword(osc.capabilities.lent(), 2);
         if row.permitted & 0x11 == 0x01 && requested & 0x11 == 0x11 {
             osc.answer.lent_mut()[8] |= 1;
         }
@@ -144,7 +134,7 @@ fn ors_before_it_ands(wrong: &mut Wrong, call: &mut Call) -> Given {
         .expect("the call was done");
     for (index, value) in values.iter_mut().enumerate() {
         if !aer || matches!(index, 4 | 5) {
-            let [and, or] = [0, 1].map(|mask| little_endian(&record[7..], 2 * index + mask));
+            let [and, or] = [0, 1].map(|mask| dword(&record[7..], 2 * index + mask));
             *value = (asked.current.lent()[index] | or) & and;
         }
     }

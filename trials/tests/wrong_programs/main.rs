@@ -2,6 +2,7 @@
 //! difference is as short as it can be.
 
 mod errors_seen;
+mod granting;
 mod lent;
 mod misread;
 mod misread_starts;
@@ -10,7 +11,6 @@ mod sessions;
 mod wrong;
 
 use trials::counts::Counts;
-use trials::exhaustive::granting;
 use trials::random_trials::{self, Setting};
 use trials::service::{Pair, Service};
 use wrong::pair;
@@ -26,10 +26,4 @@ fn a_program_compared_with_itself_does_not_differ() {
     let mut counts = Counts::default();
     assert!(random_trials::run(&setting, &[itself], &mut counts).is_ok());
     assert!(counts.calls() >= 20_000);
-}
-
-#[test]
-fn a_wrong_granting_rule_is_found_among_every_set() {
-    let without_bit_4 = |permitted, held, requested| requested & (permitted | held) & 0x1F;
-    assert!(granting::every_set(without_bit_4).is_err());
 }

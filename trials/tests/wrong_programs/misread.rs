@@ -8,7 +8,7 @@ use trials::part::Part;
 use trials::requests::UUID;
 use trials::service::{Pair, Service};
 
-use crate::wrong::{Wrong, found, instead, pair, short_names};
+use crate::wrong::{Wrong, found, instead, last_osc, pair, short_names};
 
 /// The reference with another answer to an _OSC call that it does not refuse.
 fn answered(wrong: &mut Wrong, call: &mut Call, change: fn(&mut Osc)) -> Given {
@@ -21,12 +21,7 @@ fn answered(wrong: &mut Wrong, call: &mut Call, change: fn(&mut Osc)) -> Given {
 
 /// The simplest _OSC call that shows the wrong rule.
 fn found_osc(make: fn() -> Pair) -> Osc {
-    let found = found(make);
-    assert_eq!(short_names(&found), ["start", "osc"]);
-    match found.list.last() {
-        Some(Call::Osc(osc)) => osc.clone(),
-        _ => panic!("{}", found.report()),
-    }
+    last_osc(&found(make), &["start", "osc"])
 }
 
 fn takes_any_uuid(call: &mut Call) {

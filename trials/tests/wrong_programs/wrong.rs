@@ -2,7 +2,7 @@
 
 use std::collections::HashMap;
 
-use trials::call::{Call, Start};
+use trials::call::{Call, Osc, Start};
 use trials::counts::Counts;
 use trials::exhaustive;
 use trials::given::Given;
@@ -76,6 +76,26 @@ pub fn short_names(found: &Found) -> Vec<&'static str> {
         }
     }
     found.list.iter().map(Call::name).collect()
+}
+
+/// The _OSC call at the end of a list of calls with these names.
+pub fn last_osc(found: &Found, names: &[&str]) -> Osc {
+    assert_eq!(short_names(found), names);
+    match found.list.last() {
+        Some(Call::Osc(osc)) => osc.clone(),
+        _ => panic!("{}", found.report()),
+    }
+}
+
+/// A little-endian DWORD.
+pub fn dword(bytes: &[u8], index: usize) -> u32 {
+    let (words, _) = bytes.as_chunks::<4>();
+    u32::from_le_bytes(words[index])
+}
+
+/// Whether an _OSC call was a right one, by its answer.
+pub fn judged(given: Given, answer: &[u8]) -> bool {
+    given.number == 0 && matches!(answer[0], 0x00 | 0x10)
 }
 
 /// The list that shows the wrong rule in an exhaustive comparison, in words.

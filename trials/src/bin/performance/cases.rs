@@ -6,8 +6,8 @@ use slipwattle::sys;
 use trials::requests::UUID;
 
 use crate::inputs::{
-    BRIDGE, bridge, example_block, long_block, mcfg_table, rows, session, tables, their_rows,
-    type_2,
+    BRIDGE, Tables, bridge, example_block, long_block, mcfg_table, rows, session, tables,
+    their_rows, type_2,
 };
 use crate::requests::{Request, our_osc, tables_that_hold, taking, their_osc};
 
@@ -115,16 +115,19 @@ fn oscs(run: &mut impl Runner) {
         session: BRIDGE + 1,
         ..taking(0x1F)
     };
-    osc(run, "_OSC, query", &query);
-    osc(run, "_OSC, taking call", &taking(0x1F));
-    osc(run, "_OSC, taking call, some bits masked", &taking(0x3F));
-    osc(run, "_OSC, unknown UUID: status 0x04", &unknown);
-    osc(run, "_OSC, Count 8: status 0x02", &eight);
-    osc(run, "_OSC, not the owner: refusal 2", &foreign);
+    osc(run, "_OSC, query", tables(), &query);
+    let all = taking(0x1F);
+    osc(run, "_OSC, taking call", tables(), &all);
+    let masked = "_OSC, taking call, some bits masked";
+    osc(run, masked, tables(), &taking(0x3F));
+    let alone = "_OSC, taking call, bit 4 held and not asked for";
+    osc(run, alone, tables_that_hold(0x10), &taking(0x0D));
+    osc(run, "_OSC, unknown UUID: status 0x04", tables(), &unknown);
+    osc(run, "_OSC, Count 8: status 0x02", tables(), &eight);
+    osc(run, "_OSC, not the owner: refusal 2", tables(), &foreign);
 }
 
-fn osc(run: &mut impl Runner, name: &'static str, q: &Request) {
-    let mut t = tables();
+fn osc(run: &mut impl Runner, name: &'static str, mut t: Tables, q: &Request) {
     let capabilities = q.capabilities();
     let mut answers = [vec![0; capabilities.len()], vec![0; capabilities.len()]];
     let [a, b] = &mut answers;
