@@ -3,6 +3,9 @@ use crate::holds;
 use rules::BridgeNumber;
 use rules::SessionNumber;
 
+// Control bit 4.
+const EXPRESS_CAPABILITY: u32 = 0x10;
+
 // A call, once the bits of `held` were taken with support bit 0.
 fn sent(permitted: u32, held: u32, status: u32, support: u32, control: u32) {
     print::hexes(
@@ -64,37 +67,16 @@ fn alone() {
 
 // "permitted and, for bits 0, 2 and 3", document 02, b: "only if bit 4 is requested in the same call and is held or permitted. A held bit
 // asked for again is still granted."
-fn hot_plug() {
-    grant(0x11, 0, 0x11);
-    grant(0x11, 0, 0x01);
-    grant(0x01, 0, 0x11);
-    grant(0x10, 0, 0x11);
-    grant(0x11, 0x10, 0x11);
-    grant(0x11, 0x10, 0x01);
-    grant(0x10, 0x10, 0x11);
-    grant(0x11, 0x11, 0x01);
-}
-
-fn pme() {
-    grant(0x14, 0, 0x14);
-    grant(0x14, 0, 0x04);
-    grant(0x04, 0, 0x14);
-    grant(0x10, 0, 0x14);
-    grant(0x14, 0x10, 0x14);
-    grant(0x14, 0x10, 0x04);
-    grant(0x10, 0x10, 0x14);
-    grant(0x14, 0x14, 0x04);
-}
-
-fn aer() {
-    grant(0x18, 0, 0x18);
-    grant(0x18, 0, 0x08);
-    grant(0x08, 0, 0x18);
-    grant(0x10, 0, 0x18);
-    grant(0x18, 0x10, 0x18);
-    grant(0x18, 0x10, 0x08);
-    grant(0x10, 0x10, 0x18);
-    grant(0x18, 0x18, 0x08);
+fn dependent(bit: u32) {
+    let both = EXPRESS_CAPABILITY | bit;
+    grant(both, 0, both);
+    grant(both, 0, bit);
+    grant(bit, 0, both);
+    grant(EXPRESS_CAPABILITY, 0, both);
+    grant(both, EXPRESS_CAPABILITY, both);
+    grant(both, EXPRESS_CAPABILITY, bit);
+    grant(EXPRESS_CAPABILITY, EXPRESS_CAPABILITY, both);
+    grant(both, both, bit);
 }
 
 // "either already held"; "granted bits join the held ones"
@@ -139,9 +121,9 @@ fn callers() {
 pub fn lines() {
     print::text(b"Granting control\n");
     alone();
-    hot_plug();
-    pme();
-    aer();
+    dependent(0x01);
+    dependent(0x04);
+    dependent(0x08);
     joined();
     flags();
     callers();
