@@ -1,4 +1,5 @@
-// The bench sheet of document 01, its fourth line as document 02, b, has it, line by line in its order, through the calls. P permitted, H held, R requested, G granted.
+// The bench sheet of document 01, line by line in its order, through the calls; its fourth line as document 02, b, has it, its numbers of rows as e has them, and at the end as many
+// entries. P permitted, H held, R requested, G granted.
 use print::bytes;
 use print::decimal;
 use print::end;
@@ -232,12 +233,12 @@ fn main() {
     search(b"42-byte block", &fixtures::EXAMPLE_BLOCK, 1);
     search(b"42-byte block", &fixtures::EXAMPLE_BLOCK, 2);
     counts();
-    rows(16);
-    rows(17);
+    rows(64);
+    rows(65);
     address(4092, 4);
     address(4094, 4);
     search(b"empty blocks", b"", 0);
     search(b"tag 0 length 3", &LENGTH_3, 0);
-    entries(16);
-    entries(17);
+    entries(64);
+    entries(65);
 }

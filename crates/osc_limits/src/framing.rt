@@ -100,7 +100,7 @@ fn callers() {
     by(1, 2, &fixtures::UUID);
     by(2, 0, &fixtures::UUID);
     by(0, 3, &fixtures::UUID);
-    by(1, 16, &fixtures::UUID);
+    by(1, 64, &fixtures::UUID);
     by(1, 0, b"");
     by(2, 0, b"");
     by(1, 3, b"");

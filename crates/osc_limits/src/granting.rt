@@ -109,13 +109,13 @@ fn callers() {
     reset(2, 0);
     reset(1, 3);
     reset(0, 3);
-    reset(1, 16);
+    reset(1, 64);
     report(1, 0);
     report(1, 2);
     report(2, 0);
     report(1, 3);
     report(0, 3);
-    report(1, 16);
+    report(1, 64);
 }
 
 pub fn lines() {

@@ -1,6 +1,8 @@
 // The limits of a place and its address, and of an address read back. fixtures::three_bridges says whose bridges there are.
 use rules::BridgeNumber;
 use rules::SessionNumber;
+use rules::Table;
+ghost use Rattle.rules.specs.Start.{Sound};
 
 // A session asks for an address.
 fn asked(session: u8, bridge: u8, bus: u32, device: u32, function: u32, offset: u32, width: u32) {
@@ -50,7 +52,7 @@ fn back(session: u8, address: u64) {
     print::end();
 }
 
-// "Address 1, 2, 5, 4." Bridge 3 is the first beyond the table, where the owner of an unused place is 0; 16 is the first beyond the array.
+// "Address 1, 2, 5, 4." Bridge 3 is the first beyond the table, where the owner of an unused place is 0; 64 is the first beyond the array.
 fn orders() {
     print::text(
         b"(address: session, bridge, bus, device, function, offset, width; bridge 0: session 1, buses 16 to 31; 1: session 2, 32 to 47; 2: session 1, 255)\n",
@@ -58,10 +60,10 @@ fn orders() {
     asked(2, 1, 32, 0, 0, 0, 1);
     asked(1, 2, 255, 0, 0, 0, 1);
     asked(1, 1, 32, 0, 0, 0, 1);
-    asked(17, 0, 16, 0, 0, 0, 1);
+    asked(65, 0, 16, 0, 0, 0, 1);
     asked(0, 0, 16, 0, 0, 0, 1);
     asked(0, 3, 0, 0, 0, 0, 1);
-    asked(1, 16, 16, 0, 0, 0, 1);
+    asked(1, 64, 16, 0, 0, 0, 1);
     asked(1, 3, 15, 32, 0, 0, 1);
     asked(1, 1, 15, 32, 0, 0, 1);
     asked(1, 0, 15, 32, 0, 0, 1);
@@ -116,7 +118,7 @@ fn windows() {
     back(2, 0xe1ff_ffff);
     back(2, 0xe200_0000);
     back(3, 0xe200_0000);
-    back(17, 0xe100_0000);
+    back(65, 0xe100_0000);
 }
 
 // On a bus that no row has; in a session's second bridge; beyond 32 bits; and the parts of an address.
@@ -130,6 +132,43 @@ fn bits() {
     back(1, 0xe100_0fff);
 }
 
+// A table with as many bridges as it can have, all of session 1: bridge k has bus k alone.
+fn full() -> Table
+    ensures { λ r. ⌜ Sound r ⌝ }
+{
+    let started = fixtures::start(0xe000_0000, 0, 255, 1, fixtures::rows_by_bus(), 64);
+    started.table
+}
+
+// The last address of a bus of it, and where that is found.
+fn last_of(bridge: u8, bus: u32) {
+    print::decimals(b"of 64", &[bridge as u64, bus as u64]);
+    let s = SessionNumber(1);
+    let a = bridges::address(full(), s, BridgeNumber(bridge), bus, 31, 7, 4095, 1);
+    print::came(a.number);
+    print::hexes(b",", &[a.address]);
+    let l = bridges::locate(full(), s, a.address);
+    let p = l.place;
+    print::decimals(
+        b", back",
+        &[l.number as u64, p.bridge.0 as u64, p.bus as u64],
+    );
+    print::end();
+}
+
+// 64 bridges (document 02, e)
+fn last_bridges() {
+    print::text(
+        b"(of 64: bridge, bus; bridge k is session 1's, bus k; back: number, bridge, bus)\n",
+    );
+    last_of(0, 0);
+    last_of(62, 62);
+    last_of(63, 62);
+    last_of(63, 63);
+    last_of(63, 64);
+    last_of(64, 64);
+}
+
 pub fn lines() {
     print::text(b"Place and address\n");
     orders();
@@ -138,4 +177,5 @@ pub fn lines() {
     buses();
     windows();
     bits();
+    last_bridges();
 }

@@ -72,16 +72,16 @@ fn twice(tag: u8, length: u8, first: u8, second: u8, record_type: u32)
     );
 }
 
-// One field with tag 3 and length 768 + `low`, which fills a block of 3 bytes more.
+// One field with tag 3 and length 3840 + `low`, which fills a block of 3 bytes more.
 fn filled(low: u8)
     requires { ⌜ low ≤ 254 ⌝ }
 {
-    let bytes = 771 + (low as usize);
+    let bytes = 3843 + (low as usize);
     print::decimals(b"filled", &[bytes as u64]);
-    let mut b = [0; 1025];
+    let mut b = [0; 4097];
     b[0] = 3;
     b[1] = low;
-    b[2] = 3;
+    b[2] = 15;
     search_in(&b, bytes, 0);
 }
 
@@ -180,7 +180,7 @@ fn type_2() {
     dword(93, 65536, 0);
 }
 
-// "A length running past the end, one or two bytes left over, or a block above 1024 bytes is unsound"
+// "A length running past the end, one or two bytes left over", or a block above 4096 bytes (document 02, e) "is unsound"
 fn ends() {
     blocks(b"a byte, length 1", b"", b"\x03\x01\x00\xff");
     blocks(b"no byte, length 1", b"", b"\x03\x01\x00");

@@ -114,7 +114,7 @@ fn orders() {
     by(1, 3, &[0; 7], b"\x03");
     by(2, 0, &[0; 7], b"\x03");
     by(0, 3, &[0; 7], b"\x03");
-    by(1, 16, &[0; 7], b"\x03");
+    by(1, 64, &[0; 7], b"\x03");
 }
 
 // "the bridge does not hold control bit 0"; "for the six error registers too, unless AER (bit 3) is held, when they stay"

@@ -13,7 +13,7 @@ use Rattle.rules.specs.BenchRuns.{ExampleRuns}
 pub example-runs : ExampleRuns
 unfolding maxRows maxEntries maxOwner maxBlock bit entries mcfgSound rowsSound startNumber startTable granted framingBad recognised oscAnswer oscAfter fieldsOf blockSound recordIn step
 example-runs = (
-  (refl, (refl, (refl, (refl, (refl, (refl, (refl, (refl, (refl, (refl, (refl, (refl, (refl, (refl, (refl, (refl, (refl, (refl, (refl, (refl, (refl, (refl, (refl, (refl, (refl, tt))))))))))))))))))))))))),
+  (refl, (refl, (refl, (refl, (refl, (refl, (refl, (refl, (refl, (refl, (refl, (refl, (refl, (refl, (refl, (refl, (refl, (refl, (refl, (refl, (refl, (refl, (refl, (refl, (refl, (refl, (refl, (refl, tt)))))))))))))))))))))))))))),
   (refl, tt),
   (refl, (refl, (refl, (refl, (refl, (refl, (refl, (refl, (refl, (refl, (refl, (refl, (refl, (refl, (refl, (refl, tt)))))))))))))))),
   (refl, (refl, (refl, (refl, (refl, tt))))),

@@ -44,6 +44,18 @@ starting m rows = record { mcfg = m; rows = rows }
 abbrev pub lesson : StartInput
 lesson = starting oneEntry (row express 3 0 15 0x1F ∷ row express 5 128 159 0x1F ∷ [])
 
+-- n entries, last to first: entry k has base k x 2^32, segment k, buses 0 to 255
+abbrev pub segments : ℕ → List ℕ
+segments zero = []
+segments (suc n) = 0 ∷ 0 ∷ 0 ∷ 0 ∷ n ∷ 0 ∷ 0 ∷ 0 ∷ n ∷ 0 ∷ 0 ∷ 0xFF ∷ 0 ∷ 0 ∷ 0 ∷ 0 ∷ segments n
+
+-- the MCFG tables of 64 and of 65 such entries: 1068 bytes, and 1084
+abbrev pub entries64 : List ℕ
+entries64 = set (set (set (take 44 oneEntry) 4 0x2C) 5 4) 9 0x32 ++ segments 64
+
+abbrev pub entries65 : List ℕ
+entries65 = set (set (set (take 44 oneEntry) 4 0x3C) 5 4) 9 0xA3 ++ segments 65
+
 -- n rows of one bus each
 abbrev pub oneBusRows : ℕ → List BridgeRow
 oneBusRows zero = []
@@ -67,11 +79,13 @@ starts =
     -- a reserved byte, with the sum and without it
     ∷ (startNumber (starting (set (set oneEntry 36 1) 9 0xC6) []) gives 0)
     ∷ (startNumber (starting (set oneEntry 36 1) []) gives 6)
-    -- buses 9 to 8; buses over the end of the entry; the first and the last row share bus 15; owner 16; permitted bit 5; a conventional row
+    -- document 02, e: 64 entries, and 65
+    ∷ (startNumber (starting entries64 []) gives 0)
+    ∷ (startNumber (starting entries65 []) gives 6)
+    -- buses 9 to 8; buses over the end of the entry; the first and the last row share bus 15; permitted bit 5; a conventional row
     ∷ (startNumber (starting oneEntry (row express 3 9 8 0x1F ∷ [])) gives 7)
     ∷ (startNumber (starting (set (set sharedByte 64 1) 9 0xD5) (row express 3 10 20 0x1F ∷ [])) gives 7)
     ∷ (startNumber (starting oneEntry (row express 3 0 15 0x1F ∷ row express 5 16 31 0x1F ∷ row express 5 15 15 0x1F ∷ [])) gives 7)
-    ∷ (startNumber (starting oneEntry (row express 16 0 15 0x1F ∷ [])) gives 7)
     ∷ (startNumber (starting oneEntry (row express 3 0 15 0x20 ∷ [])) gives 7)
     ∷ (startNumber (starting oneEntry (row conventional 3 0 15 0x12 ∷ [])) gives 7)
     ∷ (startNumber (starting oneEntry (row conventional 3 0 15 0x02 ∷ [])) gives 0)
@@ -79,9 +93,11 @@ starts =
     ∷ (startNumber (starting oneEntry (row 2 3 0 15 0x02 ∷ [])) gives 7)
     ∷ (startNumber (starting oneEntry (row 255 3 0 15 0 ∷ [])) gives 7)
     ∷ (startNumber (starting [] (row 2 3 0 15 0x02 ∷ [])) gives 6)
-    -- 16 and 17 rows
-    ∷ (startNumber (starting oneEntry (oneBusRows 16)) gives 0)
-    ∷ (startNumber (starting oneEntry (oneBusRows 17)) gives 7)
+    -- document 02, e: owner 63, and 64; 64 rows, and 65
+    ∷ (startNumber (starting oneEntry (row express 63 0 15 0x1F ∷ [])) gives 0)
+    ∷ (startNumber (starting oneEntry (row express 64 0 15 0x1F ∷ [])) gives 7)
+    ∷ (startNumber (starting oneEntry (oneBusRows 64)) gives 0)
+    ∷ (startNumber (starting oneEntry (oneBusRows 65)) gives 7)
     ∷ []
 
 -- ---- a run
@@ -212,10 +228,10 @@ searches =
     ∷ (findRecord [] (set types01 15 2) 1 gives found 8 0 0)
     ∷ (findRecord [] (set type2 41 1) 2 gives found 8 0 0)
     ∷ (findRecord [] (0x05 ∷ 0xFF ∷ 0xFF ∷ []) 0 gives found 8 0 0)
-    -- revision 2 is skipped; 1024 bytes, and 1025
+    -- revision 2 is skipped; document 02, e: 4096 bytes, and 4097
     ∷ (findRecord [] (set types01 3 2) 0 gives found 9 0 0)
-    ∷ (findRecord [] (0x03 ∷ 0xFD ∷ 0x03 ∷ replicate 1021 0) 0 gives found 9 0 0)
-    ∷ (findRecord [] (0x03 ∷ 0xFE ∷ 0x03 ∷ replicate 1022 0) 0 gives found 8 0 0)
+    ∷ (findRecord [] (0x03 ∷ 0xFD ∷ 0x0F ∷ replicate 4093 0) 0 gives found 9 0 0)
+    ∷ (findRecord [] (0x03 ∷ 0xFE ∷ 0x0F ∷ replicate 4094 0) 0 gives found 8 0 0)
     ∷ []
 
 -- ---- grants beyond the sheet: a held bit that is not permitted, and bit 3 that is not; a bit above 4; bits 0 to 2 that are not permitted, with status and support of all bits;

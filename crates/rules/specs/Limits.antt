@@ -1,18 +1,18 @@
--- Document 01, "The MCFG table and the starting list" and "Record blocks and register values": the limits, each named once.
+-- Document 01, "The MCFG table and the starting list" and "Record blocks and register values": the limits as document 02, e, raises them, each named once.
 use Prim.Native.Nat.{ℕ}
 
--- "0 to 16 rows"
+-- 0 to 64 rows: "Raise bridge rows and MCFG entries from 16 to 64"
 unfoldable pub maxRows : ℕ
-maxRows = 16
+maxRows = 64
 
--- "0 to 16 whole entries"
+-- 0 to 64 whole entries
 unfoldable pub maxEntries : ℕ
-maxEntries = 16
+maxEntries = 64
 
--- "owner (0 to 15)"
+-- "owners to 0 to 63"
 unfoldable pub maxOwner : ℕ
-maxOwner = 15
+maxOwner = 63
 
--- "a block is 0 to 1024 bytes"
+-- "record blocks from 1024 to 4096 bytes"
 unfoldable pub maxBlock : ℕ
-maxBlock = 1024
+maxBlock = 4096

@@ -63,7 +63,7 @@ mcfgSound m =
     && eqb (byte m 8) 1  -- revision 1
     && eqb (sum m % 256) 0  -- all bytes sum to a multiple of 256
     && eqb ((length m - 44) % 16) 0  -- whole entries
-    && leb (length (entries m)) maxEntries  -- 0 to 16 of them
+    && leb (length (entries m)) maxEntries  -- 0 to 64 of them
     && every entrySound (entries m)
     && pairwise shareNoBus (entries m)
     && pairwise shareNoByte (entries m)

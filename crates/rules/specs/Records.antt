@@ -88,7 +88,7 @@ abbrev pub soundFields : List ℕ → Option (List Field) → Bool
 soundFields l none = false
 soundFields l (some r) = every (fieldSound l) r && pairwise (notTwice l) r
 
--- "A block is 0 to 1024 bytes of fields to its very end"
+-- "A block is .. fields to its very end", of 0 to 4096 bytes (document 02, e)
 unfoldable pub blockSound : List ℕ → Bool
 blockSound l = leb (length l) maxBlock && soundFields l (fieldsOf l)
 

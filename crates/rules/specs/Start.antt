@@ -52,7 +52,7 @@ permissible kind = cond (eqb kind conventional) 0x02 knownControl
 -- what is sound of one row
 abbrev pub rowSound : List Entry → BridgeRow → Bool
 rowSound es r =
-    leb (r .owner .0) maxOwner  -- owner not above 15
+    leb (r .owner .0) maxOwner  -- owner not above 63
     && leb (r .«first_bus») (r .«last_bus»)  -- first not above last
     && not (isNone (entryOf es r))  -- the row's buses lie inside one MCFG entry of its segment
     && (eqb (r .kind) express || eqb (r .kind) conventional)  -- Express or conventional
@@ -66,7 +66,7 @@ rowsApart r q = not (eqb (r .segment) (q .segment)) || busesApart (r .«first_bu
 -- "Sound means"
 unfoldable pub rowsSound : List Entry → List BridgeRow → Bool
 rowsSound es rows =
-    leb (length rows) maxRows  -- 0 to 16 rows
+    leb (length rows) maxRows  -- 0 to 64 rows
     && every (rowSound es) rows
     && pairwise rowsApart rows
 

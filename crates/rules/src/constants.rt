@@ -1,11 +1,11 @@
 // Constants of the code that mirror definitions. Contracts say what the code does with them, so none need be believed.
 
 // The other limits of specs/Limits.
-pub const MAX_ENTRIES: usize = 16;
+pub const MAX_ENTRIES: usize = 64;
 
-pub const MAX_OWNER: u8 = 15;
+pub const MAX_OWNER: u8 = 63;
 
-pub const MAX_BLOCK: usize = 1024;
+pub const MAX_BLOCK: usize = 4096;
 
 // The kinds of specs/Start.
 pub const EXPRESS: u8 = 0;

@@ -3,7 +3,7 @@
 pub mod constants;
 
 // The most bridges that a table holds; `maxRows` in specs/Limits.
-pub const MAX_ROWS: usize = 16;
+pub const MAX_ROWS: usize = 64;
 
 #[repr(C)]
 pub struct SessionNumber(pub u8);

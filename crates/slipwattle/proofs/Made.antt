@@ -233,5 +233,5 @@ granted-bits = all-claims .granted-bits
 pub lines : AllHold sheet × (AllHold starts × AllHold run × AllHold searches × AllHold grants × AllHold places)
 lines = (all-claims .bench-sheet, all-claims .example-runs)
 
-pub how-many : (length sheet ≡ 12) × (length starts ≡ 25) × (length run ≡ 1) × (length searches ≡ 16) × (length grants ≡ 5) × (length places ≡ 13)
+pub how-many : (length sheet ≡ 12) × (length starts ≡ 28) × (length run ≡ 1) × (length searches ≡ 16) × (length grants ≡ 5) × (length places ≡ 13)
 how-many = (refl, refl, refl, refl, refl, refl)

@@ -130,12 +130,12 @@ fn revisions_and_sums() {
     checksum(181);
 }
 
-// "0 to 16 whole entries"
+// 0 to 64 whole entries (document 02, e)
 fn whole_entries() {
     print::text(b"(entries: how many; length: length field, bytes lent)\n");
     entries(0);
-    entries(16);
-    entries(17);
+    entries(64);
+    entries(65);
     length(48, 48);
     length(52, 52);
     length(59, 59);

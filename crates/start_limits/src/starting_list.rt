@@ -102,21 +102,21 @@ fn third(bus: u8, segment: u16, first: u8, last: u8) {
     came(start(rows, 3));
 }
 
-// "Start 6, 7."; "0 to 16 rows; owner not above 15"
+// "Start 6, 7."; 0 to 64 rows; owner not above 63 (document 02, e)
 fn rows_and_owners() {
     print::text(
         b"(rows: sum of the MCFG table, number of rows; both: that sum, owner of a row; row: owner, kind, permitted bits)\n",
     );
     rows(0, 0);
-    rows(0, 16);
-    rows(0, 17);
-    rows(1, 16);
-    rows(1, 17);
-    both(0, 16);
-    both(1, 16);
+    rows(0, 64);
+    rows(0, 65);
+    rows(1, 64);
+    rows(1, 65);
+    both(0, 64);
+    both(1, 64);
     one(0, EXPRESS, 0x1f);
-    one(15, EXPRESS, 0x1f);
-    one(16, EXPRESS, 0x1f);
+    one(63, EXPRESS, 0x1f);
+    one(64, EXPRESS, 0x1f);
     one(255, EXPRESS, 0x1f);
 }
 
