@@ -19,7 +19,7 @@ unfolding rest entries
 rest-all m = refl
 
 -- a whole entry is left: it, and those behind it
-rest-step : (m : List ℕ) (i : ℕ) → 16 + i ≤ length m → rest m i ≡ entryAt m i ∷ rest m (16 + i)
+pub rest-step : (m : List ℕ) (i : ℕ) → 16 + i ≤ length m → rest m i ≡ entryAt m i ∷ rest m (16 + i)
 unfolding rest
 rest-step m i h = ap (λ (n : ℕ). entriesFrom n m i) count
   where

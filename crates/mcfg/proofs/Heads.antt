@@ -5,7 +5,7 @@ use mathlib.Core.Bool.{Bool, true, false, _&&_}
 use mathlib.Core.List.{List, [], _∷_}
 use mathlib.Core.Option.{some}
 use Rattle.rules.specs.Lists.{every, pairwise, first}
-use Rattle.rules.proofs.Tests.{and-l, and-r}
+use Rattle.rules.proofs.Tests.{and-is, and-l, and-r}
 
 module _ {A : Type 0} {l k : List A} {e : A} (here : l ≡ e ∷ k) where
   -- the first element fails, or passes and leaves the test to the others
@@ -35,6 +35,11 @@ module _ {A : Type 0} {l k : List A} {e : A} (here : l ≡ e ∷ k) where
 
   pub first-tail : (p : A → Bool) → p e ≡ false → first p k ≡ first p l
   first-tail p f = rw (here, f)
+
+-- a test of every element that follows from another
+pub every-weaker : {A : Type 0} (p q : A → Bool) → ((x : A) → p x ≡ true → q x ≡ true) → (l : List A) → every p l ≡ true → every q l ≡ true
+every-weaker p q h [] a = refl
+every-weaker p q h (x ∷ l) a = and-is (h x (and-l (p x) (every p l) a)) (every-weaker p q h l (and-r (p x) (every p l) a))
 
 -- conjunctions taken in pairs
 pub shuffle : (a b c d : Bool) → (a && b && (c && d)) ≡ (a && c && (b && d))

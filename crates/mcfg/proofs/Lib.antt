@@ -1,3 +1,4 @@
 pub mod Heads
 pub mod Entries
+pub mod Rising
 pub mod Header

@@ -5,12 +5,12 @@ use rules::constants::BUS_BYTES;
 use rules::constants::MAX_ENTRIES;
 ghost use mathlib.Core.Path.{_≡_};
 ghost use mathlib.Core.Bool.{true, not, _&&_};
-ghost use Prim.Native.Nat.{suc, _+_, _≤_};
+ghost use Prim.Native.Nat.{suc, _+_, _*_, _≤_};
 ghost use lib.ListN.{length};
 ghost use Rattle.rules.specs.Lists.{every, pairwise, isNone};
 ghost use Rattle.rules.specs.Mcfg.{entries, entryAt, busStart, busEnd, entrySound, shareNoBus, shareNoByte, mcfgSound};
 ghost use Rattle.rules.specs.Start.{inside, entryOf, baseOf};
-ghost use Rattle.mcfg.specs.Rest.{headerSound, rest, apart};
+ghost use Rattle.mcfg.specs.Rest.{headerSound, rest, apart, below, rising};
 
 const SIGNATURE: [u8; 4] = *b"MCFG";
 
@@ -157,7 +157,39 @@ fn entries_apart(m: &[u8]) -> bool
     true
 }
 
-// Whether a lent MCFG table is sound.
+// A bus among the buses of all segments, in their order.
+fn bus_number(segment: u16, bus: u8) -> u32
+    ensures { λ r. ⌜ r ≡ segment * 256 + bus ⌝ }
+{
+    segment as u32 * 256 + bus as u32
+}
+
+// The buses and the window of one entry come before those of another.
+fn below(e: Entry, f: Entry) -> bool
+    requires { ⌜ entrySound e ≡ true ⌝ }
+    requires { ⌜ entrySound f ≡ true ⌝ }
+    ensures { λ r. ⌜ r ≡ below e f ⌝ }
+{
+    (bus_number(e.segment, e.end_bus) < bus_number(f.segment, f.start_bus))
+        & (last_byte(e) < first_byte(f))
+}
+
+// Each entry is below the next.
+fn entries_rising(m: &[u8]) -> bool
+    requires { ⌜ every entrySound (entries (now m)) ≡ true ⌝ }
+    ensures { λ r. ⌜ r ≡ rising (entries (now (m .entry))) ⌝ }
+{
+    let mut at: usize = 44;
+    while 32 + at <= m.len() {
+        if !below(entry_at(m, at), entry_at(m, 16 + at)) {
+            return false;
+        }
+        at = 16 + at;
+    }
+    true
+}
+
+// Whether a lent MCFG table is sound. Where each entry is below the next, each is below all later ones, and no more is compared.
 pub fn sound(m: &[u8]) -> bool
     ensures { λ r. ⌜ r ≡ mcfgSound (now (m .entry)) ⌝ }
 {
@@ -166,6 +198,9 @@ pub fn sound(m: &[u8]) -> bool
     }
     if !entries_sound(m) {
         return false;
+    }
+    if entries_rising(m) {
+        return true;
     }
     entries_apart(m)
 }
