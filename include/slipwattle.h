@@ -26,12 +26,12 @@ extern "C" {
 #endif
 
 #define SLIPWATTLE_VERSION_MAJOR 0
-#define SLIPWATTLE_VERSION_MINOR 3
+#define SLIPWATTLE_VERSION_MINOR 4
 #define SLIPWATTLE_VERSION_PATCH 0
-#define SLIPWATTLE_VERSION "0.3.0"
+#define SLIPWATTLE_VERSION "0.4.0"
 
 /* The most rows of a starting list (a table has a bridge for each), and the registers of a type 2 record. */
-#define SLIPWATTLE_MAX_ROWS 16
+#define SLIPWATTLE_MAX_ROWS 64
 #define SLIPWATTLE_REGISTERS 8
 
 /* The number that each call gives. */
@@ -130,7 +130,7 @@ typedef struct {
     uint8_t number;
 } slipwattle_bridge;
 
-/* A row of the starting list: the control bits that _OSC may grant, the PCI segment, the session that owns the bridge (0 to 15), its
+/* A row of the starting list: the control bits that _OSC may grant, the PCI segment, the session that owns the bridge (0 to 63), its
  * buses, and its kind (enum slipwattle_kind). With the fields by name:
  *    {.permitted = SLIPWATTLE_CONTROL_ALL, .segment = 0, .owner = {1}, .first_bus = 0, .last_bus = 15, .kind = SLIPWATTLE_KIND_EXPRESS} */
 typedef struct {
@@ -154,7 +154,7 @@ typedef struct {
     uint8_t last_bus;
 } slipwattle_host_bridge;
 
-/* The table of host bridges. For the calls alone. */
+/* The table of host bridges: 2056 bytes, 64 bridges of 32 bytes and their count. For the calls alone. */
 typedef struct {
     slipwattle_host_bridge bridges[SLIPWATTLE_MAX_ROWS];
     size_t count;
@@ -167,7 +167,7 @@ typedef struct {
 
 /* Starts a table. Refusals: 6, 7; a refused start gives a table with no bridges, on which every call may be made.
  *
- * mcfg: the bytes of the ACPI MCFG table, header included.
+ * mcfg: the bytes of the ACPI MCFG table, header included: 44, and 16 for each of 0 to 64 entries.
  * rows: the starting list, a row for each bridge. Bridges are numbered from 0 in this order. row_count counts rows, not bytes. More than
  *    SLIPWATTLE_MAX_ROWS of them, or a kind that is none, is 7.
  */
@@ -235,7 +235,7 @@ typedef struct {
 
 /* Finds the revision 1 _HPX setting record of a type (0, 1 or 2). Refusals: 8, 9.
  *
- * slot, bridge_block: the slot's and the bridge's record blocks. If the slot's is not empty it alone decides.
+ * slot, bridge_block: the slot's and the bridge's record blocks, 0 to 4096 bytes each. If the slot's is not empty it alone decides.
  * What is handed back says where the record lies: whether the slot's block decided, the byte of the deciding block where it starts, and
  *    its length, header included. The call takes no table and no session. */
 slipwattle_record slipwattle_find_record(const uint8_t *slot, size_t slot_length, const uint8_t *bridge_block, size_t bridge_block_length,

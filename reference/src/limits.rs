@@ -1,13 +1,13 @@
-//! The limits of document 01, each named once.
+//! The limits of document 01, four of them as document 02, e, has them, each named once.
 
 /// Most rows of a starting list, so most bridges of a table.
-pub(crate) const MAX_ROWS: usize = 16;
+pub(crate) const MAX_ROWS: usize = 64;
 /// Most entries of an MCFG table.
-pub(crate) const MAX_ENTRIES: usize = 16;
+pub(crate) const MAX_ENTRIES: usize = 64;
 /// Highest session number that may own a bridge.
-pub(crate) const MAX_OWNER: u8 = 15;
+pub(crate) const MAX_OWNER: u8 = 63;
 /// Most bytes of a record block.
-pub(crate) const MAX_BLOCK: usize = 1024;
+pub(crate) const MAX_BLOCK: usize = 4096;
 /// Most DWORDs of an _OSC call.
 pub(crate) const MAX_COUNT: u32 = 8;
 /// Highest device number on a bus.

@@ -14,7 +14,7 @@ const CONVENTIONAL: u8 = 1;
 /// One row of the starting list.
 #[derive(Clone, Copy, Debug, PartialEq, Eq)]
 pub struct BridgeRow {
-    /// The session that owns the bridge, 0 to 15.
+    /// The session that owns the bridge, 0 to 63.
     pub owner: SessionNumber,
     /// The segment of its buses.
     pub segment: u16,

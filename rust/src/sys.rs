@@ -9,7 +9,7 @@ compile_error!(
 use core::mem::{align_of, offset_of, size_of};
 
 /// The most rows of a starting list; a table has a bridge for each.
-pub const MAX_ROWS: usize = 16;
+pub const MAX_ROWS: usize = 64;
 /// The registers of a type 2 record.
 pub const REGISTERS: usize = 8;
 
@@ -69,7 +69,7 @@ pub struct HostBridge {
     pub last_bus: u8,
 }
 
-/// `slipwattle_table`: the table of host bridges. For the calls alone.
+/// `slipwattle_table`: the table of host bridges, 2056 bytes. For the calls alone.
 #[repr(C)]
 #[derive(Clone, Copy, Debug, PartialEq, Eq)]
 pub struct Table {
@@ -181,9 +181,9 @@ const _: () = {
     assert!(offset_of!(HostBridge, held) == 12 && offset_of!(HostBridge, supported) == 16);
     assert!(offset_of!(HostBridge, segment) == 20 && offset_of!(HostBridge, owner) == 22);
     assert!(offset_of!(HostBridge, first_bus) == 23 && offset_of!(HostBridge, last_bus) == 24);
-    assert!(size_of::<Table>() == 520 && align_of::<Table>() == 8);
-    assert!(offset_of!(Table, bridges) == 0 && offset_of!(Table, count) == 512);
-    assert!(size_of::<Started>() == 528 && offset_of!(Started, number) == 520);
+    assert!(size_of::<Table>() == 2056 && align_of::<Table>() == 8);
+    assert!(offset_of!(Table, bridges) == 0 && offset_of!(Table, count) == 2048);
+    assert!(size_of::<Started>() == 2064 && offset_of!(Started, number) == 2056);
     assert!(size_of::<Holding>() == 8 && offset_of!(Holding, supported) == 4);
     assert!(size_of::<Reported>() == 12 && offset_of!(Reported, holding) == 4);
     assert!(size_of::<Addressed>() == 16 && offset_of!(Addressed, address) == 8);

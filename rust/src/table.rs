@@ -19,8 +19,8 @@ use crate::types::{BridgeNumber, BridgeRow, Holding, Place, SessionNumber};
 pub struct Table(sys::Table);
 
 impl Table {
-    /// Starts a table from the bytes of the ACPI MCFG table, header included, and a list of 0 to 16 bridge rows. Bridges are numbered
-    /// from 0 in the order of the list; they hold nothing at first.
+    /// Starts a table from the bytes of the ACPI MCFG table, header and 0 to 64 entries, and a list of 0 to 64 bridge rows. Bridges are
+    /// numbered from 0 in the order of the list; they hold nothing at first.
     ///
     /// # Errors
     ///

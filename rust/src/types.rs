@@ -48,7 +48,7 @@ pub struct BridgeRow {
     pub permitted: u32,
     /// The PCI segment.
     pub segment: u16,
-    /// The session that owns the bridge, 0 to 15.
+    /// The session that owns the bridge, 0 to 63.
     pub owner: SessionNumber,
     /// The first bus.
     pub first_bus: u8,

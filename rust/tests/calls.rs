@@ -84,12 +84,12 @@ fn start_hands_over_every_field_of_a_row() {
         Table::start(&mcfg(), &[row]).map(|table| table.len())
     };
     let sound: [fn(&mut BridgeRow); 3] = [
-        |row| row.owner = SessionNumber(15),
+        |row| row.owner = SessionNumber(63),
         |row| row.last_bus = 255,
         |row| (row.kind, row.permitted) = (BridgeKind::Conventional, CONTROL_SHPC_HOT_PLUG),
     ];
     let unsound: [fn(&mut BridgeRow); 7] = [
-        |row| row.owner = SessionNumber(16),
+        |row| row.owner = SessionNumber(64),
         |row| row.segment = 1,
         |row| row.segment = 1 << 8,
         |row| row.first_bus = 16,
@@ -102,17 +102,17 @@ fn start_hands_over_every_field_of_a_row() {
 }
 
 #[test]
-fn start_takes_0_to_16_rows() {
+fn start_takes_0_to_64_rows() {
     let one_bus = |bus| BridgeRow {
         first_bus: bus,
         last_bus: bus,
         ..row(1)
     };
-    let rows: Vec<BridgeRow> = (0..40).map(one_bus).collect();
+    let rows: Vec<BridgeRow> = (0..200).map(one_bus).collect();
     assert!(Table::start(&mcfg(), &[]).unwrap().is_empty());
-    let most = Table::start(&mcfg(), &rows[..16]).unwrap();
-    assert_eq!((most.len(), most.is_empty()), (16, false));
-    for count in [17, 18, 40] {
+    let most = Table::start(&mcfg(), &rows[..64]).unwrap();
+    assert_eq!((most.len(), most.is_empty()), (64, false));
+    for count in [65, 66, 200] {
         let refused = Table::start(&mcfg(), &rows[..count]).unwrap_err();
         assert_eq!(refused, Refusal::Rows);
         // The MCFG table is looked at first.
@@ -186,6 +186,19 @@ fn numbers_are_compared_whole() {
     let found = |record_type| find_record(&[], &block, record_type).is_ok();
     assert_eq!([1, 2].map(found), [true; 2]);
     assert_eq!([0, 3, 0x101, 0x102].map(found), [false; 4]);
+}
+
+#[test]
+fn a_block_has_4096_bytes_at_most() {
+    let block = |length: usize| {
+        let skipped = (length - 3 - TYPE_1.len()) as u16;
+        let mut block = vec![0xFF; length - TYPE_1.len()];
+        block[1..3].copy_from_slice(&skipped.to_le_bytes());
+        [&block, TYPE_1].concat()
+    };
+    let [most, more] = [4096, 4097].map(block);
+    assert_eq!(find_record(&[], &most, 1), Ok(TYPE_1));
+    assert_eq!(find_record(&[], &more, 1), Err(Refusal::RecordBlock));
 }
 
 #[test]

@@ -41,12 +41,12 @@ AT(slipwattle_host_bridge, segment, 20);
 AT(slipwattle_host_bridge, owner, 22);
 AT(slipwattle_host_bridge, first_bus, 23);
 AT(slipwattle_host_bridge, last_bus, 24);
-SIZE(slipwattle_table, 520);
+SIZE(slipwattle_table, 2056);
 AT(slipwattle_table, bridges, 0);
-AT(slipwattle_table, count, 512);
-SIZE(slipwattle_started, 528);
+AT(slipwattle_table, count, 2048);
+SIZE(slipwattle_started, 2064);
 AT(slipwattle_started, table, 0);
-AT(slipwattle_started, number, 520);
+AT(slipwattle_started, number, 2056);
 SIZE(slipwattle_holding, 8);
 AT(slipwattle_holding, held, 0);
 AT(slipwattle_holding, supported, 4);
@@ -165,20 +165,23 @@ static slipwattle_started start(const slipwattle_bridge_row *rows, size_t count,
     return s;
 }
 
-static void starts_up_to_16_rows(void) {
-    slipwattle_bridge_row many[17];
+static void starts_up_to_64_rows(void) {
+    slipwattle_bridge_row many[65];
     uint8_t mcfg[60];
     slipwattle_started s;
     size_t i;
     write_mcfg(mcfg);
-    for (i = 0; i < 17; i++) {
+    for (i = 0; i < 65; i++) {
         many[i] = row(1, (uint8_t)i, (uint8_t)i);
     }
-    s = start(many, 16, true);
-    CHECK(s.number == 0 && s.table.count == 16);
-    s = start(many, 17, true);
+    s = start(many, 64, true);
+    CHECK(s.number == 0 && s.table.count == 64);
+    CHECK(slipwattle_address(&s.table, session(1), bridge(63), 63, 0, 0, 0, 1).address == 0xE3F00000u);
+    CHECK(slipwattle_locate(&s.table, session(1), 0xE3F00000u).place.bridge.number == 63);
+    CHECK(slipwattle_report(&s.table, session(1), bridge(64)).number == 1);
+    s = start(many, 65, true);
     CHECK(s.number == 7 && s.table.count == 0);
-    s = start(many, 17, false);
+    s = start(many, 65, false);
     CHECK(s.number == 6 && s.table.count == 0);
     s = slipwattle_start(mcfg, sizeof mcfg, NULL, 0);
     CHECK(s.number == 0 && s.table.count == 0);
@@ -203,8 +206,8 @@ static void judges_each_field_of_a_row(void) {
     CHECK(start_one(r, all, 1) == 7);
     CHECK(start_one(r, shpc, 2) == 7);
     CHECK(start_one(r, shpc, 255) == 7);
-    CHECK(start_one(row(15, 0, 15), all, 0) == 0);
-    CHECK(start_one(row(16, 0, 15), all, 0) == 7);
+    CHECK(start_one(row(63, 0, 15), all, 0) == 0);
+    CHECK(start_one(row(64, 0, 15), all, 0) == 7);
     CHECK(start_one(row(1, 255, 255), all, 0) == 0);
     CHECK(start_one(row(1, 255, 254), all, 0) == 7);
     r.segment = 0x0100;
@@ -427,6 +430,28 @@ static void finds_records(void) {
     }
 }
 
+/* A skipped field, and the example's records at the end of a block of so many bytes. */
+static slipwattle_record find_at_the_end(size_t length) {
+    uint8_t block[4097];
+    uint8_t *lent;
+    slipwattle_record r;
+    memset(block, 0xFF, length);
+    block[1] = (uint8_t)((length - 45) % 256);
+    block[2] = (uint8_t)((length - 45) / 256);
+    memcpy(block + length - 42, EXAMPLE, 42);
+    lent = (uint8_t *)lend(block, length);
+    r = slipwattle_find_record(NULL, 0, lent, length, 1);
+    free(lent);
+    return r;
+}
+
+static void finds_records_in_4096_bytes(void) {
+    slipwattle_record r = find_at_the_end(4096);
+    CHECK(r.number == 0 && !r.in_slot && r.start == 4096 - 19 && r.size == 19);
+    r = find_at_the_end(4097);
+    CHECK(r.number == 8 && !r.in_slot && r.start == 0 && r.size == 0);
+}
+
 static void computes_register_values(slipwattle_table *t) {
     uint8_t settings[71], answer[12];
     uint32_t current[9] = {1, 2, 3, 4, 0x2110, 6, 7, 8, 9};
@@ -476,7 +501,7 @@ int main(void) {
     rows[1] = row(2, 16, 31);
     s = start(rows, 2, true);
     CHECK(s.number == 0 && s.table.count == 2);
-    starts_up_to_16_rows();
+    starts_up_to_64_rows();
     judges_each_field_of_a_row();
     keeps_each_field_of_a_row();
     negotiates(&s.table);
@@ -487,6 +512,7 @@ int main(void) {
     buses_have_limits();
     places_are_refused_in_order(&s.table);
     finds_records();
+    finds_records_in_4096_bytes();
     computes_register_values(&s.table);
     has_a_text_for_each_number();
     CHECK(slipwattle_reset(&s.table, session(1), bridge(0)) == 0);

@@ -4,7 +4,7 @@ use std::ops::Range;
 
 use crate::random::Random;
 
-pub const MOST_BYTES: usize = 1024;
+pub const MOST_BYTES: usize = 4096;
 
 /// The greatest value of each number after the revision, by record type.
 const LIMITS: [&[u32]; 3] = [&[255, 255, 1, 1], &[3, 7, 7], &REGISTER_LIMITS];
@@ -187,13 +187,20 @@ fn cut_or_extended(random: &mut Random, mut block: Vec<u8>) -> Vec<u8> {
     block
 }
 
-/// The block with a skipped field at its end or beginning, so that it has 1023 to 1025 bytes.
+/// The block with skipped fields at its end or beginning, so that it has 4095 to 4097 bytes.
 fn padded(random: &mut Random, block: Vec<u8>) -> Vec<u8> {
     let length = random.pick(&[MOST_BYTES - 1, MOST_BYTES, MOST_BYTES + 1]);
-    let filler = field(3, &random.bytes(length - 3 - block.len()));
+    let filler = filler(random, length - block.len());
     if random.one_in(2) {
         [filler, block].concat()
     } else {
         [block, filler].concat()
     }
+}
+
+/// So many bytes, at least 3, of skipped fields: one, or as many as there is room for.
+fn filler(random: &mut Random, bytes: usize) -> Vec<u8> {
+    let before = random.pick(&[0, bytes / 3 - 1]);
+    let last = random.bytes(bytes - 3 * (before + 1));
+    [field(3, &[]).repeat(before), field(3, &last)].concat()
 }

@@ -2,12 +2,12 @@
 
 use crate::blocks;
 use crate::call::{Call, FindRecord, Locate, RegisterValues, Report, Reset, Start};
-use crate::mcfg::{self, Entry};
+use crate::mcfg::{self, Entry, MOST_ENTRIES};
 use crate::places;
 use crate::random::Random;
 use crate::requests;
 use crate::row::Row;
-use crate::rows::{self, MOST_ROWS};
+use crate::rows::{self, HIGHEST_OWNER, MOST_ROWS};
 
 /// A sound start, around which the calls of a list are drawn, whether or not the list starts so.
 pub struct Plan {
@@ -19,7 +19,12 @@ pub struct Plan {
 
 impl Plan {
     pub fn new(random: &mut Random) -> Plan {
-        let count = random.pick(&[0, 1, 1, 1, 1, 2, 2, 2, 2, 3, 3, 3, 4, 4, 8, 16]);
+        let few = [0, 1, 1, 1, 1, 2, 2, 2, 2, 3, 3, 3, 4, 4, 8];
+        let count = if random.one_in(16) {
+            random.pick(&[16, MOST_ENTRIES - 1, MOST_ENTRIES])
+        } else {
+            random.pick(&few)
+        };
         let entries = mcfg::sound_entries(random, count);
         let any = random.between(0, MOST_ROWS);
         let most = random.pick(&[1, 2, 3, 4, 6, MOST_ROWS, any]);
@@ -52,7 +57,7 @@ impl Plan {
         let count = self.rows.len();
         let bridge = match random.below(16) {
             0 => count as u8,
-            1 => random.pick(&[count as u8 + 1, 16, 17, 128, 255]),
+            1 => random.pick(&[count as u8 + 1, 64, 65, 128, 255]),
             _ => random.below(count.max(1)) as u8,
         };
         let owner = self
@@ -64,10 +69,10 @@ impl Plan {
                 owner + 1,
                 owner.wrapping_sub(1),
                 owner ^ 1,
-                owner | 0x10,
+                owner | 0x40,
                 255,
             ]),
-            1 | 2 => random.below(17) as u8,
+            1 | 2 => random.between(0, usize::from(HIGHEST_OWNER) + 1) as u8,
             _ => owner,
         };
         (session, bridge)
@@ -167,9 +172,12 @@ pub fn any_list(random: &mut Random) -> Vec<Call> {
     list
 }
 
-/// A taking call on each bridge, so that register values are computed with AER and without.
+/// A taking call on each of a few bridges, or on about 8 of many, so that register values are computed with AER and without.
 fn take_control(random: &mut Random, plan: &Plan, list: &mut Vec<Call>) {
     for (bridge, row) in plan.rows.iter().enumerate() {
+        if random.below(plan.rows.len()) >= 8 {
+            continue;
+        }
         let control = random.pick(&[0x1F, 0x17, 0x11, 0x19]);
         let call = requests::right_call(row.owner, bridge as u8, 0, random.word(), control);
         list.push(call.into());

@@ -7,6 +7,7 @@ pub const BUS_BYTES: u64 = 1 << 20;
 const BUSES_TO_END: u64 = 1 << 44;
 pub const HEADER: usize = 44;
 pub const ENTRY: usize = 16;
+pub const MOST_ENTRIES: usize = 64;
 
 #[derive(Clone, Copy, Debug, PartialEq, Eq)]
 pub struct Entry {
@@ -67,7 +68,7 @@ pub fn mend_checksum(bytes: &mut [u8]) {
     }
 }
 
-/// Entries whose table is sound if they are at most 16. Many touch at an edge, many end at 2^64.
+/// Entries whose table is sound if they are at most 64. Many touch at an edge, many end at 2^64.
 pub fn sound_entries(random: &mut Random, count: usize) -> Vec<Entry> {
     let mut entries = bus_ranges(random, count);
     set_windows(random, &mut entries);
@@ -143,7 +144,7 @@ fn spoiled_entries(random: &mut Random, entries: &[Entry]) -> Vec<Entry> {
             let other = sharing_the_last_window_bus(random, chosen);
             put(random, &mut spoiled, other);
         }
-        _ => spoiled = sound_entries(random, 17),
+        _ => spoiled = sound_entries(random, MOST_ENTRIES + 1),
     }
     spoiled
 }
@@ -184,12 +185,12 @@ fn sharing_the_last_window_bus(random: &mut Random, entry: Entry) -> Entry {
     }
 }
 
-/// Puts the entry in; where 16 stand already, another is taken out.
+/// Puts the entry in; where 64 stand already, another is taken out.
 fn put(random: &mut Random, entries: &mut Vec<Entry>, entry: Entry) {
     let index = random.below(entries.len() + 1);
     entries.insert(index, entry);
-    if entries.len() > 16 {
-        entries.remove(if index == 0 { 16 } else { 0 });
+    if entries.len() > MOST_ENTRIES {
+        entries.remove(if index == 0 { MOST_ENTRIES } else { 0 });
     }
 }
 

@@ -4,18 +4,26 @@ use crate::mcfg::Entry;
 use crate::random::Random;
 use crate::row::{CONVENTIONAL, EXPRESS, NUMBERS, Row};
 
-pub const MOST_ROWS: usize = 16;
+pub const MOST_ROWS: usize = 64;
+pub const HIGHEST_OWNER: u8 = 63;
 
-/// Up to `most` rows inside these entries; sound if they are at most 16.
+/// Up to `most` rows inside these entries; sound if they are at most 64. Where many are asked for, each is short, so that there are buses for
+/// all.
 pub fn sound_rows(random: &mut Random, entries: &[Entry], most: usize) -> Vec<Row> {
-    let owners = [0, 15, random.below(16) as u8];
+    let any = random.between(0, HIGHEST_OWNER.into()) as u8;
+    let owners = [0, HIGHEST_OWNER, any];
+    let more_buses = if most > 8 {
+        [0, 0, 0, 1]
+    } else {
+        [0, 1, 5, 255]
+    };
     let mut rows = Vec::new();
     for entry in entries {
         let mut next = usize::from(entry.start);
         let end = usize::from(entry.end);
         while next <= end && rows.len() < most {
             let first = (next + random.pick(&[0, 0, 0, 1])).min(end);
-            let last = (first + random.pick(&[0, 1, 5, 255])).min(end);
+            let last = (first + random.pick(&more_buses)).min(end);
             let (kind, permitted) = kind_and_permitted(random);
             rows.push(Row {
                 permitted,
@@ -64,7 +72,7 @@ pub fn spoiled_rows(random: &mut Random, entries: &[Entry], rows: &[Row]) -> Vec
     spoiled
 }
 
-/// 17 rows, which are sound but for that where the entries have buses for all of them.
+/// 65 rows, which are sound but for that where the entries have buses for all of them.
 fn one_too_many(random: &mut Random, entries: &[Entry]) -> Vec<Row> {
     let mut rows = sound_rows(random, entries, MOST_ROWS + 1);
     rows.resize(MOST_ROWS + 1, Row::express(0, 0, 0, 0));
@@ -73,7 +81,7 @@ fn one_too_many(random: &mut Random, entries: &[Entry]) -> Vec<Row> {
 
 fn spoil_number(random: &mut Random, row: &mut Row) {
     match random.below(5) {
-        0 => row.owner = random.pick(&[16, 17, 255, row.owner | 0x10]),
+        0 => row.owner = random.pick(&[64, 65, 255, row.owner | 0x40]),
         1 => row.kind = random.pick(&[2, 2, 3, 255, 0x80, row.kind | 0x80]),
         2 => row.permitted |= 1 << random.pick(&[5, 6, 8, 31]),
         3 => (row.kind, row.permitted) = (CONVENTIONAL, random.pick(&[1, 3, 4, 8, 0x10, 0x1F])),

@@ -1,6 +1,6 @@
 //! The shortest list that shows a difference.
 
-use std::ops::Range;
+use std::rc::Rc;
 
 use crate::blocks;
 use crate::call::{Call, Start};
@@ -49,7 +49,7 @@ fn first_simpler(list: &[Call], differs: &mut dyn FnMut(&[Call]) -> bool) -> Opt
         return Some(simpler);
     }
     (0..list.len()).find_map(|index| {
-        let simpler = simpler_calls(&list[index]).into_iter();
+        let simpler = simpler_calls(&list[index]);
         simpler.map(|call| with(list, index, call)).find(&mut good)
     })
 }
@@ -92,112 +92,112 @@ fn without_row(list: &[Call], row: usize) -> Vec<Call> {
     changed
 }
 
-/// Calls like this one with one argument simpler, and starts with one entry less.
-fn simpler_calls(call: &Call) -> Vec<Call> {
-    let mut simpler = Vec::new();
-    if let Call::Start(start) = call {
-        simpler.extend(simpler_tables(start));
-    }
-    for index in 0..call.clone().parts().len() {
-        simpler.extend(simpler_part(call, index));
-    }
-    simpler
+/// Calls like this one with one argument simpler, and starts with one entry less. Each is made when it is asked for: a long buffer has
+/// many.
+fn simpler_calls(call: &Call) -> impl Iterator<Item = Call> {
+    let tables = match call {
+        Call::Start(start) => Some(simpler_tables(start)),
+        _ => None,
+    };
+    let parts = 0..call.clone().parts().len();
+    let parts = parts.flat_map(|index| simpler_part(call, index));
+    tables.into_iter().flatten().chain(parts)
 }
 
 /// Starts from an MCFG table with one entry less, with zeros in a run or with one byte smaller, mended.
-fn simpler_tables(start: &Start) -> Vec<Call> {
+fn simpler_tables(start: &Start) -> impl Iterator<Item = Call> {
     let table = start.mcfg.lent();
-    let mut simpler = Vec::new();
-    for entry in (mcfg::HEADER..table.len()).step_by(mcfg::ENTRY) {
+    let entries = (mcfg::HEADER..table.len()).step_by(mcfg::ENTRY);
+    let fewer = entries.map(|entry| {
         let mut fewer = table.to_vec();
         fewer.drain(entry..(entry + mcfg::ENTRY).min(table.len()));
         mcfg::mend(&mut fewer);
-        simpler.push(fewer);
-    }
-    let numbers: Vec<u64> = table.iter().copied().map(u64::from).collect();
-    let (fixed, free) = numbers.split_at(numbers.len().min(10));
-    for changed in zero_runs(free).into_iter().chain(smaller_numbers(free)) {
-        let numbers = fixed.iter().chain(&changed);
-        let mut bytes: Vec<u8> = numbers.map(|number| *number as u8).collect();
+        fewer
+    });
+    let (fixed, free) = table.split_at(table.len().min(10));
+    let free: Rc<[u64]> = free.iter().copied().map(u64::from).collect();
+    let changed = zero_runs(free.clone()).chain(smaller_numbers(free));
+    let mended = changed.map(|changed| {
+        let changed = changed.iter().map(|number| *number as u8);
+        let mut bytes: Vec<u8> = fixed.iter().copied().chain(changed).collect();
         mcfg::mend_checksum(&mut bytes);
-        simpler.push(bytes);
-    }
-    let with_table = |table: Vec<u8>| {
+        bytes
+    });
+    fewer.chain(mended).map(|table| {
         let mut changed = start.clone();
         changed.mcfg.replace(&table);
         changed.into()
-    };
-    simpler.into_iter().map(with_table).collect()
+    })
 }
 
-/// Smaller numbers to try instead of this one: 0, then it less a half, a quarter and so on down to it less 1.
-fn smaller(number: u64) -> Vec<u64> {
-    let parts = (0..u64::BITS).map(|bits| number >> bits);
-    parts
+/// Smaller numbers to try instead of this one: 0, then it less a half, a quarter and so on down to it less 1, then it without one of its
+/// bits, the highest first.
+fn smaller(number: u64) -> impl Iterator<Item = u64> {
+    let parts = (0..u64::BITS).map(move |bits| number >> bits);
+    let less = parts
         .take_while(|part| *part > 0)
-        .map(|part| number - part)
-        .collect()
+        .map(move |part| number - part);
+    let bits = (0..u64::BITS).rev().map(|bit| 1 << bit);
+    let without = bits
+        .filter(move |bit| number & bit != 0)
+        .map(move |bit| number & !bit);
+    less.chain(without)
 }
 
-fn shorter(numbers: &[u64]) -> Vec<Vec<u64>> {
+fn shorter(numbers: Rc<[u64]>) -> impl Iterator<Item = Vec<u64>> {
     let lengths = [0, numbers.len() / 2, numbers.len().saturating_sub(1)];
-    lengths.map(|length| numbers[..length].to_vec()).into()
+    let lengths = lengths.into_iter();
+    lengths.map(move |length| numbers[..length].to_vec())
 }
 
 /// Lists with zeros in a run of numbers: all of them, a half, and so on down to 2.
-fn zero_runs(numbers: &[u64]) -> Vec<Vec<u64>> {
-    let mut simpler = Vec::new();
-    let mut run = numbers.len();
-    while run > 1 {
-        for start in (0..numbers.len()).step_by(run) {
-            let mut changed = numbers.to_vec();
-            let zeroed = changed[start..].iter_mut().take(run);
-            zeroed.for_each(|number| *number = 0);
-            simpler.push(changed);
-        }
-        run /= 2;
-    }
-    simpler
+fn zero_runs(numbers: Rc<[u64]>) -> impl Iterator<Item = Vec<u64>> {
+    let length = numbers.len();
+    let halves = (0..usize::BITS).map(move |bits| length >> bits);
+    let runs = halves.take_while(|run| *run > 1);
+    let starts = runs.flat_map(move |run| (0..length).step_by(run).map(move |start| (start, run)));
+    starts.map(move |(start, run)| {
+        let mut changed = numbers.to_vec();
+        let zeroed = changed[start..].iter_mut().take(run);
+        zeroed.for_each(|number| *number = 0);
+        changed
+    })
 }
 
 /// Lists with one number smaller.
-fn smaller_numbers(numbers: &[u64]) -> Vec<Vec<u64>> {
-    let mut simpler = Vec::new();
-    for index in 0..numbers.len() {
-        for number in smaller(numbers[index]) {
+fn smaller_numbers(numbers: Rc<[u64]>) -> impl Iterator<Item = Vec<u64>> {
+    let indexes = 0..numbers.len();
+    indexes.flat_map(move |index| {
+        let numbers = numbers.clone();
+        smaller(numbers[index]).map(move |number| {
             let mut changed = numbers.to_vec();
             changed[index] = number;
-            simpler.push(changed);
-        }
-    }
-    simpler
+            changed
+        })
+    })
 }
 
 /// Record blocks with one field less.
-fn fewer_fields(block: &[u64]) -> Vec<Vec<u64>> {
+fn fewer_fields(block: Rc<[u64]>) -> impl Iterator<Item = Vec<u64>> {
     let bytes: Vec<u8> = block.iter().map(|number| *number as u8).collect();
-    let without = |field: Range<usize>| [&block[..field.start], &block[field.end..]].concat();
-    blocks::fields(&bytes).into_iter().map(without).collect()
+    let fields = blocks::fields(&bytes).into_iter();
+    fields.map(move |field| [&block[..field.start], &block[field.end..]].concat())
 }
 
 /// Calls like this one with the argument of this index simpler.
-fn simpler_part(call: &Call, index: usize) -> Vec<Call> {
+fn simpler_part(call: &Call, index: usize) -> impl Iterator<Item = Call> {
     let mut original = call.clone();
     let (name, part) = &original.parts()[index];
-    let numbers = part.numbers();
-    let mut simpler = Vec::new();
-    if matches!(*name, "slot" | "bridge_block") {
-        simpler.extend(fewer_fields(&numbers));
-    }
-    if part.is_buffer() {
-        simpler.extend(shorter(&numbers));
-        simpler.extend(zero_runs(&numbers));
-    }
-    simpler.extend(smaller_numbers(&numbers));
-    let with_numbers = |numbers: Vec<u64>| {
+    let numbers: Rc<[u64]> = part.numbers().into();
+    let is_block = matches!(*name, "slot" | "bridge_block");
+    let fewer = is_block.then(|| fewer_fields(numbers.clone()));
+    let of_buffer = |numbers: Rc<[u64]>| shorter(numbers.clone()).chain(zero_runs(numbers));
+    let of_buffer = part.is_buffer().then(|| of_buffer(numbers.clone()));
+    let buffers = fewer.into_iter().flatten();
+    let buffers = buffers.chain(of_buffer.into_iter().flatten());
+    buffers.chain(smaller_numbers(numbers)).map(move |numbers| {
         let mut changed = call.clone();
         changed.parts()[index].1.set_numbers(&numbers);
         changed
-    };
-    simpler.into_iter().map(with_numbers).collect()
+    })
 }

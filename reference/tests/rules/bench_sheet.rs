@@ -99,10 +99,10 @@ fn count_8_and_9() {
 }
 
 #[test]
-fn rows_16_and_17() {
-    let rows: Vec<_> = (0..17).map(|bus| row(bus, bus, 0)).collect();
-    let table = start(&[(BASE, 0, 0, 255)], &rows[..16]).unwrap();
-    assert_eq!(table.len(), 16);
+fn rows_64_and_65() {
+    let rows: Vec<_> = (0..65).map(|bus| row(bus, bus, 0)).collect();
+    let table = start(&[(BASE, 0, 0, 255)], &rows[..64]).unwrap();
+    assert_eq!(table.len(), 64);
     let refused = start(&[(BASE, 0, 0, 255)], &rows);
     assert_eq!(refused.unwrap_err(), Refusal::Rows);
 }

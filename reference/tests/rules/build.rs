@@ -9,7 +9,7 @@ pub const STRANGER: SessionNumber = SessionNumber(4);
 /// The first bridge.
 pub const BRIDGE: BridgeNumber = BridgeNumber(0);
 /// A bridge that no table of these tests has.
-pub const ABSENT: BridgeNumber = BridgeNumber(16);
+pub const ABSENT: BridgeNumber = BridgeNumber(64);
 /// The base of the MCFG entry of these tests.
 pub const BASE: u64 = 0xE000_0000;
 /// The kinds of a row.

@@ -110,13 +110,13 @@ fn other_type(record: &[u8]) -> Vec<u8> {
 }
 
 #[test]
-fn block_of_1024_bytes() {
+fn block_of_4096_bytes() {
     let mut block = express(1, 2);
-    block.extend(field(3, &[0; 1024 - 71 - 3]));
-    assert_eq!(block.len(), 1024);
+    block.extend(field(3, &[0; 4096 - 71 - 3]));
+    assert_eq!(block.len(), 4096);
     assert_eq!(find_record(&block, &[], 2), Ok(&block[..71]));
-    let over = [&express(1, 2)[..], &field(3, &[0; 1025 - 71 - 3])].concat();
-    assert_eq!(over.len(), 1025);
+    let over = [&express(1, 2)[..], &field(3, &[0; 4097 - 71 - 3])].concat();
+    assert_eq!(over.len(), 4097);
     assert!(!sound(&over));
     assert_eq!(find_record(&over, &block, 2), Err(Refusal::RecordBlock));
 }

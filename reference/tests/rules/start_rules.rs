@@ -56,9 +56,11 @@ fn lengths() {
 }
 
 #[test]
-fn entries_16_and_17() {
-    let many: Vec<Entry> = (0..17).map(|n| (u64::from(n) << 28, n, 0, 255)).collect();
-    assert_eq!(entries(&many[..16]), Ok(()));
+fn entries_64_and_65() {
+    let many: Vec<Entry> = (0..65).map(|n| (u64::from(n) << 28, n, 0, 255)).collect();
+    assert_eq!(mcfg(&many[..64]).len(), 1068);
+    assert_eq!(entries(&many[..64]), Ok(()));
+    assert_eq!(mcfg(&many).len(), 1084);
     assert_eq!(entries(&many), Err(Refusal::Mcfg));
 }
 
@@ -119,11 +121,11 @@ fn entries_share_no_byte() {
 
 #[test]
 fn the_last_pair_counts() {
-    let mut many: Vec<Entry> = (0..16).map(|n| (u64::from(n) << 28, n, 0, 255)).collect();
-    many[15].0 = many[0].0;
+    let mut many: Vec<Entry> = (0..64).map(|n| (u64::from(n) << 28, n, 0, 255)).collect();
+    many[63].0 = many[0].0;
     assert_eq!(entries(&many), Err(Refusal::Mcfg));
-    let mut list: Vec<_> = (0..16).map(|n| row_7(0x10 + n, 0x10 + n)).collect();
-    list[15] = row_7(0x10, 0x10);
+    let mut list: Vec<_> = (0..64).map(|n| row_7(0x10 + n, 0x10 + n)).collect();
+    list[63] = row_7(0x10, 0x10);
     assert_eq!(rows(&list), Err(Refusal::Rows));
 }
 
@@ -140,7 +142,7 @@ fn single_rows() {
             owner: SessionNumber(owner),
             ..row_7(0x10, 0x8F)
         };
-        assert_eq!(rows(&[row]).is_ok(), owner <= 15);
+        assert_eq!(rows(&[row]).is_ok(), owner <= 63);
     }
 }
 

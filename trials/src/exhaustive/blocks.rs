@@ -1,7 +1,7 @@
-//! Record blocks with one byte changed, and cut, and the types that are asked for.
+//! Record blocks with one byte changed, cut, and of every length, and the types that are asked for.
 
 use super::Bench;
-use crate::blocks;
+use crate::blocks::{self, MOST_BYTES};
 use crate::call::{FindRecord, RegisterValues, Start};
 use crate::mcfg::{self, Entry};
 use crate::random::Random;
@@ -57,6 +57,21 @@ pub fn cut_blocks(make: fn() -> Pair) -> Result<u64, String> {
     let sound = sound_block();
     for length in 0..=sound.len() {
         check(&mut bench, &sound[..length], &sound)?;
+    }
+    Ok(bench.count)
+}
+
+/// A skipped field, and a type 2 record at the end.
+pub fn lengths(make: fn() -> Pair) -> Result<u64, String> {
+    let mut bench = started(make)?;
+    let record = blocks::record(&mut Random::new(1), 2);
+    for skipped in 0..=MOST_BYTES + 100 - 3 - record.len() {
+        let block = [blocks::field(3, &vec![0x55; skipped]), record.clone()].concat();
+        bench.check(FindRecord {
+            slot: Vec::new().into(),
+            bridge_block: block.into(),
+            record_type: 2,
+        })?;
     }
     Ok(bench.count)
 }

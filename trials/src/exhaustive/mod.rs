@@ -15,7 +15,7 @@ use crate::service::Pair;
 /// The name of each comparison, and the comparison: the count of its calls, or a difference in words.
 type Comparison = (&'static str, fn(fn() -> Pair) -> Result<u64, String>);
 
-const COMPARISONS: [Comparison; 9] = [
+const COMPARISONS: [Comparison; 12] = [
     (
         "every offset with every width, and numbers beyond",
         places::offsets_and_widths,
@@ -28,7 +28,18 @@ const COMPARISONS: [Comparison; 9] = [
         "every bus of every bridge and numbers beyond, read back under each session",
         places::buses_and_sessions,
     ),
-    ("every window edge and the bytes beside it", places::edges),
+    (
+        "every window edge and the bytes beside it, of 9 bridges and of 64",
+        places::edges,
+    ),
+    (
+        "every number of rows, and of entries, to 2 past the most",
+        starts::numbers,
+    ),
+    (
+        "every two of 64 rows that share a bus, and of 64 entries that share a bus or a byte",
+        starts::pairs,
+    ),
     (
         "every byte of an MCFG table changed to every value",
         starts::changed_bytes,
@@ -42,6 +53,10 @@ const COMPARISONS: [Comparison; 9] = [
         blocks::changed_bytes,
     ),
     ("a record block cut at every byte", blocks::cut_blocks),
+    (
+        "a record block of every length from 74 bytes to 100 past the most",
+        blocks::lengths,
+    ),
     (
         "every record type of a byte, and numbers beyond",
         blocks::types,

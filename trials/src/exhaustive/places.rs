@@ -3,16 +3,17 @@
 use super::Bench;
 use crate::call::{Address, Locate, Start};
 use crate::given::{Given, Handed};
-use crate::mcfg::{self, Entry};
+use crate::mcfg::{self, BUS_BYTES, Entry};
 use crate::places;
 use crate::random::Random;
 use crate::row::Row;
+use crate::rows::HIGHEST_OWNER;
 use crate::service::Pair;
 
-/// Sessions 0 to 16, of which 16 owns nothing, and the last number.
-const SESSIONS: [u8; 18] = [
-    0, 1, 2, 3, 4, 5, 6, 7, 8, 9, 10, 11, 12, 13, 14, 15, 16, 255,
-];
+/// Every session that may own a bridge, the one after them, and the last number.
+fn sessions() -> impl Iterator<Item = u8> {
+    (0..=HIGHEST_OWNER + 1).chain([u8::MAX])
+}
 
 /// Touching windows, one that starts above bus 0, one that ends at 2^64.
 const ENTRIES: [Entry; 4] = [
@@ -50,7 +51,7 @@ const ROWS: [Row; 9] = [
     Row::express(1, 1, 32, 40),
     Row::express(2, 1, 41, 41),
     Row::express(1, 1, 43, 63),
-    Row::express(15, 0xFFFF, 128, 200),
+    Row::express(63, 0xFFFF, 128, 200),
     Row::express(0, 0xFFFF, 202, 254),
     Row::express(2, 0xFFFF, 255, 255),
 ];
@@ -64,13 +65,39 @@ fn beyond_a_byte() -> impl Iterator<Item = u32> {
         .chain([u32::MAX])
 }
 
+/// 64 rows, each of another owner, in four entries of 64 buses: the windows of the first two touch, the last ends at 2^64. Rows have 1 to
+/// 4 buses; one of 4 touches the next.
+fn full() -> (Vec<Entry>, Vec<Row>) {
+    let first_buses = [0, 64, 0xE00, (1 << 44) - 64];
+    let entry = |k: u8| Entry {
+        base: (first_buses[usize::from(k)] - 10 * u64::from(k)) * BUS_BYTES,
+        segment: 0x0101 * u16::from(k),
+        start: 10 * k,
+        end: 10 * k + 63,
+    };
+    let row = |n: u8| {
+        let (k, j) = (n / 16, n % 16);
+        let first = 10 * k + 4 * j;
+        Row::express(n, 0x0101 * u16::from(k), first, first + j % 4)
+    };
+    ((0..4).map(entry).collect(), (0..64).map(row).collect())
+}
+
 fn started(make: fn() -> Pair) -> Result<Bench, String> {
-    let mcfg = mcfg::table(&mut Random::new(0), &ENTRIES);
+    start(make, &ENTRIES, &ROWS)
+}
+
+fn start(make: fn() -> Pair, entries: &[Entry], rows: &[Row]) -> Result<Bench, String> {
+    let mcfg = mcfg::table(&mut Random::new(0), entries);
     let start = Start {
         mcfg: mcfg.into(),
-        rows: ROWS.to_vec().into(),
+        rows: rows.to_vec().into(),
     };
-    Bench::new(make, vec![start.into()])
+    let mut bench = Bench::new(make, Vec::new())?;
+    let given = bench.check(start)?.map(|given| given.number);
+    assert_eq!(given, Some(0), "the start is sound");
+    bench.count = 0;
+    Ok(bench)
 }
 
 /// The address call for a place on bus 33, which bridge 3 has.
@@ -119,7 +146,7 @@ pub fn devices_and_functions(make: fn() -> Pair) -> Result<u64, String> {
 pub fn buses_and_sessions(make: fn() -> Pair) -> Result<u64, String> {
     let mut bench = started(make)?;
     for bridge in (0..=ROWS.len() as u8).chain([u8::MAX]) {
-        for session in SESSIONS {
+        for session in sessions() {
             for bus in (0..=0xFF).chain(beyond_a_byte()) {
                 let call = Address {
                     session,
@@ -144,19 +171,25 @@ pub fn buses_and_sessions(make: fn() -> Pair) -> Result<u64, String> {
 }
 
 fn read_back(bench: &mut Bench, address: u64) -> Result<(), String> {
-    for session in SESSIONS {
+    for session in sessions() {
         bench.check(Locate { session, address })?;
     }
     Ok(())
 }
 
 pub fn edges(make: fn() -> Pair) -> Result<u64, String> {
-    let mut bench = started(make)?;
-    let entries = ENTRIES.iter().map(|entry| (entry, entry.start, entry.end));
-    let rows = ROWS
+    let (entries, rows) = full();
+    Ok(edges_of(make, &ENTRIES, &ROWS)? + edges_of(make, &entries, &rows)?)
+}
+
+/// Reads back the addresses at the edges of every entry and row, under each session.
+fn edges_of(make: fn() -> Pair, entries: &[Entry], rows: &[Row]) -> Result<u64, String> {
+    let mut bench = start(make, entries, rows)?;
+    let of_entries = entries.iter().map(|entry| (entry, entry.start, entry.end));
+    let of_rows = rows
         .iter()
-        .filter_map(|row| Some((row.entry(&ENTRIES)?, row.first, row.last)));
-    for (entry, first, last) in entries.chain(rows) {
+        .filter_map(|row| Some((row.entry(entries)?, row.first, row.last)));
+    for (entry, first, last) in of_entries.chain(of_rows) {
         for edge in places::edges(entry, first, last) {
             for address in [edge.wrapping_sub(1), edge, edge.wrapping_add(1)] {
                 read_back(&mut bench, address)?;

@@ -1,11 +1,13 @@
-//! Starts from an MCFG table with one byte changed, or a row with one number changed.
+//! Starts from an MCFG table with one byte changed, or a row with one number changed; of every number of rows and entries; with two of them
+//! that share something.
 
 use super::Bench;
 use crate::call::{Address, Start};
-use crate::mcfg::{self, Entry};
+use crate::mcfg::{self, Entry, MOST_ENTRIES};
 use crate::random::Random;
 use crate::requests::{self, QUERY};
 use crate::row::{CONVENTIONAL, NUMBERS, Row};
+use crate::rows::MOST_ROWS;
 use crate::service::Pair;
 
 /// Touching windows of two segments, the last of which ends at 2^64.
@@ -82,6 +84,66 @@ pub fn changed_rows(make: fn() -> Pair) -> Result<u64, String> {
                 let mut changed = ROWS;
                 changed[index] = Row::from_numbers(&numbers);
                 start(&mut bench, &mcfg, &changed)?;
+            }
+        }
+    }
+    Ok(bench.count)
+}
+
+/// So many entries: entry `k` has segment `k`, buses 0 to 255 and a window of its own, each touching the next.
+fn many_entries(count: usize) -> Vec<Entry> {
+    let entry = |k| Entry {
+        base: u64::from(k) << 28,
+        segment: k,
+        start: 0,
+        end: 255,
+    };
+    (0..count as u16).map(entry).collect()
+}
+
+/// So many rows of segment 0: row `k` has bus `k` alone, and the 64 owners take turns.
+fn many_rows(count: usize) -> Vec<Row> {
+    let row = |k| Row::express(k % 64, 0, k, k);
+    (0..count as u8).map(row).collect()
+}
+
+/// Every number of rows in one entry, and of entries with a row in the last.
+pub fn numbers(make: fn() -> Pair) -> Result<u64, String> {
+    let mut bench = Bench::new(make, Vec::new())?;
+    let one = mcfg::table(&mut Random::new(0), &many_entries(1));
+    for count in 0..=MOST_ROWS + 2 {
+        start(&mut bench, &one, &many_rows(count))?;
+    }
+    for count in 0..=MOST_ENTRIES + 2 {
+        let entries = many_entries(count);
+        let mcfg = mcfg::table(&mut Random::new(0), &entries);
+        let in_last = entries
+            .last()
+            .map(|last| Row::express(63, last.segment, 0, 255));
+        start(&mut bench, &mcfg, in_last.as_slice())?;
+    }
+    Ok(bench.count)
+}
+
+/// As many rows and entries as there may be, sound but that one row has the bus of another, one entry the segment or the base.
+pub fn pairs(make: fn() -> Pair) -> Result<u64, String> {
+    let mut bench = Bench::new(make, Vec::new())?;
+    let (entries, rows) = (many_entries(MOST_ENTRIES), many_rows(MOST_ROWS));
+    let one = mcfg::table(&mut Random::new(0), &entries[..1]);
+    for i in 0..MOST_ROWS {
+        for j in 0..MOST_ROWS {
+            let mut shared = rows.clone();
+            (shared[i].first, shared[i].last) = (rows[j].first, rows[j].last);
+            start(&mut bench, &one, &shared)?;
+        }
+    }
+    for i in 0..MOST_ENTRIES {
+        for j in 0..MOST_ENTRIES {
+            let [mut bus, mut byte] = [entries.clone(), entries.clone()];
+            bus[i].segment = entries[j].segment;
+            byte[i].base = entries[j].base;
+            for shared in [bus, byte] {
+                start(&mut bench, &mcfg::table(&mut Random::new(0), &shared), &[])?;
             }
         }
     }

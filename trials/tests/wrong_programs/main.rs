@@ -4,6 +4,7 @@
 mod errors_seen;
 mod granting;
 mod lent;
+mod limits;
 mod misread;
 mod misread_starts;
 mod narrowed;

@@ -21,7 +21,7 @@ fn refused(wrong: &mut Wrong, call: &mut Call, number: u8, breaks: fn(&Start) ->
 }
 
 /// The start that shows the wrong rule by itself, with so many bytes and rows.
-fn found_start(make: fn() -> Pair, lengths: (usize, usize)) -> Start {
+pub fn found_start(make: fn() -> Pair, lengths: (usize, usize)) -> Start {
     let found = found(make);
     let [Call::Start(start)] = &found.list[..] else {
         panic!("{}", found.report());
@@ -108,24 +108,24 @@ fn windows_that_may_not_touch() {
 }
 
 #[test]
-fn refusal_7_for_17_rows_before_6() {
-    let make = || pair(|wrong, call| refused(wrong, call, 7, |start| start.rows.lent().len() > 16));
-    found_start(make, (0, 17));
+fn refusal_7_for_65_rows_before_6() {
+    let make = || pair(|wrong, call| refused(wrong, call, 7, |start| start.rows.lent().len() > 64));
+    found_start(make, (0, 65));
 }
 
-fn refuses_owner_15(call: &mut Call) {
+fn refuses_owner_63(call: &mut Call) {
     if let Call::Start(start) = call {
         let rows = start.rows.lent_mut().iter_mut();
-        rows.filter(|row| row.owner == 15)
-            .for_each(|row| row.owner = 16);
+        rows.filter(|row| row.owner == 63)
+            .for_each(|row| row.owner = 64);
     }
 }
 
 #[test]
-fn owner_14_the_highest() {
-    let make = || pair(|wrong, call| instead(wrong, call, refuses_owner_15));
+fn owner_62_the_highest() {
+    let make = || pair(|wrong, call| instead(wrong, call, refuses_owner_63));
     let start = found_start(make, (60, 1));
-    assert_eq!(start.rows.lent()[0].owner, 15);
+    assert_eq!(start.rows.lent()[0].owner, 63);
 }
 
 fn permits_a_conventional_row_more(call: &mut Call) {

@@ -12,7 +12,7 @@ fn locates_across_sessions(wrong: &mut Wrong, call: &mut Call) -> Given {
         return given;
     };
     let address = *address;
-    let mut others = (0..16).map(|session| {
+    let mut others = (0..64).map(|session| {
         wrong
             .reference
             .call(&mut Locate { session, address }.into())

@@ -6,8 +6,8 @@ use slipwattle::sys;
 use trials::requests::UUID;
 
 use crate::inputs::{
-    BRIDGE, Tables, bridge, example_block, long_block, mcfg_table, rows, session, tables,
-    their_rows, type_2,
+    BRIDGE, Tables, bridge, example_block, falling_table, long_block, longest_block, mcfg_table,
+    rows, session, tables, their_rows, type_2,
 };
 use crate::requests::{Request, our_osc, tables_that_hold, taking, their_osc};
 
@@ -27,17 +27,17 @@ pub fn all(run: &mut impl Runner) {
     reset(run);
     report(run, "report", BRIDGE);
     report(run, "report, not the owner: refusal 2", BRIDGE + 1);
-    let bus = 16 * u32::from(BRIDGE) + 1;
+    let bus = 4 * u32::from(BRIDGE) + 1;
     address(run, "address", bus, 0x10);
     address(run, "address, offset 4094: refusal 5", bus, 4094);
     address(run, "address, bus outside: refusal 4", 0, 0x10);
-    locate(run, "address read back, the first of 16 bridges", 0, 0);
-    locate(run, "address read back, the last of 16 bridges", 15, 15);
+    locate(run, "address read back, the first of 64 bridges", 0, 0);
+    locate(run, "address read back, the last of 64 bridges", 63, 63);
     locate(
         run,
         "address read back, another session's: refusal 4",
         3,
-        15,
+        63,
     );
     records(run);
     register_values(run, "register values, AER held, 71 bytes", 0x1F, &type_2());
@@ -51,29 +51,40 @@ pub fn all(run: &mut impl Runner) {
         run,
         "register values, AER not held, 1,004 bytes",
         0x11,
-        &long_block(),
+        &long_block(81),
+    );
+    register_values(
+        run,
+        "register values, AER not held, 4,096 bytes",
+        0x11,
+        &longest_block(),
     );
 }
 
 fn starts(run: &mut impl Runner) {
-    let (one, many) = (mcfg_table(1), mcfg_table(16));
-    let (in_one, in_many) = (rows(16, true), rows(16, false));
-    start(run, "start, 1 entry, 1 row", &one, &rows(1, true));
-    start(run, "start, 1 entry, 16 rows", &one, &in_one);
-    start(run, "start, 16 entries, 16 rows", &many, &in_many);
+    let [one, some, many] = [1, 16, 64].map(mcfg_table);
+    let in_one = rows(64, true);
+    let in_many = rows(64, false);
+    start(run, "start, 1 entry, 1 row", &one, &in_one[..1]);
+    start(run, "start, 1 entry, 16 rows", &one, &in_one[..16]);
+    start(run, "start, 1 entry, 64 rows", &one, &in_one);
+    start(run, "start, 16 entries, 16 rows", &some, &in_many[..16]);
+    start(run, "start, 64 entries, 64 rows", &many, &in_many);
+    let falling = "start, 64 entries from the last to the first, 64 rows";
+    start(run, falling, &falling_table(64), &in_many);
     let mut wrong_sum = many.clone();
     wrong_sum[9] ^= 1;
     start(
         run,
-        "start, wrong checksum, 16 entries: refusal 6",
+        "start, wrong checksum, 64 entries: refusal 6",
         &wrong_sum,
         &in_many,
     );
     let mut shared_bus = in_one.clone();
-    shared_bus[15].first_bus -= 1;
+    shared_bus[63].first_bus -= 1;
     start(
         run,
-        "start, a bus shared by the last two of 16 rows: refusal 7",
+        "start, a bus shared by the last two of 64 rows: refusal 7",
         &one,
         &shared_bus,
     );
@@ -175,7 +186,7 @@ fn address(run: &mut impl Runner, name: &'static str, bus: u32, offset: u32) {
 fn locate(run: &mut impl Runner, name: &'static str, owner: u8, bridge: u8) {
     let t = tables();
     let s = session(owner);
-    let address = ((u64::from(bridge) + 1) << 32) + (u64::from(bridge) << 24) + 0x13010;
+    let address = ((u64::from(bridge) + 1) << 32) + (u64::from(bridge) << 22) + 0x13010;
     run.case(
         name,
         // SAFETY: a started table.
@@ -185,11 +196,13 @@ fn locate(run: &mut impl Runner, name: &'static str, owner: u8, bridge: u8) {
 }
 
 fn records(run: &mut impl Runner) {
-    let (short, long) = (example_block(), long_block());
+    let (short, long) = (example_block(), long_block(81));
     let cut = &long[..long.len() - 1];
     find_record(run, "record search, 42 bytes", &short, 1);
     find_record(run, "record search, 71 bytes", &type_2(), 2);
     find_record(run, "record search, 1,004 bytes in 84 fields", &long, 2);
+    let longest = "record search, 4,096 bytes in 365 fields";
+    find_record(run, longest, &longest_block(), 2);
     find_record(
         run,
         "record search, 1,003 bytes, the last field cut: refusal 8",

@@ -1,33 +1,42 @@
 //! What the calls are given: MCFG tables, rows, tables, record blocks.
 
 use slipwattle::sys;
-use trials::blocks::{field, numbers_field};
+use trials::blocks::{MOST_BYTES, field, numbers_field};
 use trials::mcfg::{self, Entry};
 use trials::random::Random;
 
 /// The bridge that most calls name; bridge number and owner are the same number in every table here.
 pub const BRIDGE: u8 = 9;
 
-/// An MCFG table: entry `k` is segment `k`, buses 0 to 255, a window of its own.
+/// An MCFG table: entry `k` is segment `k`, buses 0 to 255, a window of its own above the one before.
 pub fn mcfg_table(entries: u8) -> Vec<u8> {
+    table_of(0..entries)
+}
+
+/// The same entries, from the last to the first.
+pub fn falling_table(entries: u8) -> Vec<u8> {
+    table_of((0..entries).rev())
+}
+
+fn table_of(entries: impl Iterator<Item = u8>) -> Vec<u8> {
     let entry = |k: u8| Entry {
         base: (u64::from(k) + 1) << 32,
         segment: k.into(),
         start: 0,
         end: 255,
     };
-    let entries: Vec<Entry> = (0..entries).map(entry).collect();
+    let entries: Vec<Entry> = entries.map(entry).collect();
     mcfg::table(&mut Random::new(1), &entries)
 }
 
-/// Row `k` of owner `k`: 16 buses of segment `k` or, where all are in one, of segment 0.
+/// Row `k` of owner `k`: 4 buses of segment `k` or, where all are in one, of segment 0.
 pub fn rows(count: u8, one_segment: bool) -> Vec<sys::BridgeRow> {
     let row = |k: u8| sys::BridgeRow {
         permitted: 0x1F,
         segment: if one_segment { 0 } else { k.into() },
         owner: session(k).0,
-        first_bus: 16 * k,
-        last_bus: 16 * k + 15,
+        first_bus: 4 * k,
+        last_bus: 4 * k + 3,
         kind: 0,
     };
     (0..count).map(row).collect()
@@ -66,9 +75,9 @@ pub struct Tables {
     pub theirs: reference::Table,
 }
 
-/// Tables with a bridge for each of 16 rows.
+/// Tables with a bridge for each of 64 rows.
 pub fn tables() -> Tables {
-    let (m, r) = (mcfg_table(16), rows(16, false));
+    let (m, r) = (mcfg_table(64), rows(64, false));
     // SAFETY: pointers and lengths of two slices.
     let started = unsafe { sys::slipwattle_start(m.as_ptr(), m.len(), r.as_ptr(), r.len()) };
     assert_eq!(started.number, 0);
@@ -103,8 +112,15 @@ pub fn type_2() -> Vec<u8> {
     numbers_field(2, 1, pairs.as_flattened())
 }
 
-/// The three records behind 81 skipped fields of 8 bytes, 1,004 bytes in all.
-pub fn long_block() -> Vec<u8> {
-    let skipped: Vec<u8> = (0..81).flat_map(|_| field(0x80, &[0x55; 8])).collect();
+/// The three records behind so many skipped fields of 8 bytes: 81 of them make 1,004 bytes.
+pub fn long_block(skipped: usize) -> Vec<u8> {
+    let skipped = field(0x80, &[0x55; 8]).repeat(skipped);
     [skipped, example_block(), type_2()].concat()
+}
+
+/// The three records behind 361 skipped fields of 8 bytes and one of 9: a block of the greatest length.
+pub fn longest_block() -> Vec<u8> {
+    let block = [field(0x80, &[0x55; 9]), long_block(361)].concat();
+    assert_eq!(block.len(), MOST_BYTES);
+    block
 }
