@@ -1,41 +1,47 @@
 -- Entries each of which is below the next are apart, each from all later ones.
 -- Assumes nothing.
 use Prim.Native.Nat.{ℕ, _+_, _*_, _≤_, _<_}
-use mathlib.Core.Path.{_≡_, refl, sym, ap, _∙_}
-use mathlib.Core.Bool.{Bool, true, false, _&&_}
+use mathlib.Core.Path.{_≡_, refl}
+use mathlib.Core.Bool.{Bool, true, false}
 use mathlib.Core.List.{List, [], _∷_}
 use native.Mathlib.Omega.{arith}
 use lib.Dec.{eqb, leb, ltb}
 use lib.ListN.{length}
 use borrow.Author.Tests.{eqb-true, leb-true, leb-false, le-leb, lt-ltb, ltb-true}
 use Rattle.rules.specs.Lists.{every, pairwise}
-use Rattle.rules.specs.Mcfg.{busStart, busEnd, entrySound, shareNoBus, shareNoByte}
+use Rattle.rules.specs.Mcfg.{busStart, busEnd, entrySound, shareNoBus}
 use Rattle.rules.specs.declared.Entry.{Entry}
-use Rattle.rules.proofs.Tests.{and-is, and-l, and-r, or-left}
+use Rattle.rules.proofs.Tests.{and-is, and-l, and-r}
 use Rattle.mcfg.specs.Rest.{rest, apart, below, rising}
 use Rattle.mcfg.proofs.Heads.{every-weaker}
 use Rattle.mcfg.proofs.Entries.{in-order, rest-step, rest-end}
 
--- the last bus of an entry, and the first of another, among the buses of all segments
+-- an entry's first and last bus among the buses of all segments, and where its window starts and ends
+abbrev firstBus : Entry → ℕ
+firstBus e = e .segment * 256 + e .«start_bus»
+
 abbrev lastBus : Entry → ℕ
 lastBus e = e .segment * 256 + e .«end_bus»
 
-abbrev firstBus : Entry → ℕ
-firstBus f = f .segment * 256 + f .«start_bus»
+abbrev starts : Entry → ℕ
+starts e = busStart (e .base) (e .«start_bus»)
+
+abbrev ends : Entry → ℕ
+ends e = busEnd (e .base) (e .«end_bus»)
 
 module _ (e f : Entry) where
   buses-below : below e f ≡ true → lastBus e < firstBus f
-  buses-below h = ltb-true (lastBus e) (firstBus f) (and-l (ltb (lastBus e) (firstBus f)) (leb (busEnd (e .base) (e .«end_bus»)) (busStart (f .base) (f .«start_bus»))) h)
+  buses-below h = ltb-true (lastBus e) (firstBus f) (and-l (ltb (lastBus e) (firstBus f)) (leb (ends e) (starts f)) h)
 
-  window-below : below e f ≡ true → busEnd (e .base) (e .«end_bus») ≤ busStart (f .base) (f .«start_bus»)
-  window-below h = leb-true (busEnd (e .base) (e .«end_bus»)) (busStart (f .base) (f .«start_bus»)) (and-r (ltb (lastBus e) (firstBus f)) (leb (busEnd (e .base) (e .«end_bus»)) (busStart (f .base) (f .«start_bus»))) h)
+  window-below : below e f ≡ true → ends e ≤ starts f
+  window-below h = leb-true (ends e) (starts f) (and-r (ltb (lastBus e) (firstBus f)) (leb (ends e) (starts f)) h)
 
-  below-is : lastBus e < firstBus f → busEnd (e .base) (e .«end_bus») ≤ busStart (f .base) (f .«start_bus») → below e f ≡ true
-  below-is b w = and-is (lt-ltb (lastBus e) (firstBus f) b) (le-leb (busEnd (e .base) (e .«end_bus»)) (busStart (f .base) (f .«start_bus»)) w)
+  below-is : lastBus e < firstBus f → ends e ≤ starts f → below e f ≡ true
+  below-is b w = and-is (lt-ltb (lastBus e) (firstBus f) b) (le-leb (ends e) (starts f) w)
 
   -- what is below is apart: of one segment, the last bus is below the first
   below-apart : below e f ≡ true → apart e f ≡ true
-  below-apart h = and-is (buses (eqb (e .segment) (f .segment)) refl) (rw (le-leb (busEnd (e .base) (e .«end_bus»)) (busStart (f .base) (f .«start_bus»)) (window-below h)))
+  below-apart h = and-is (buses (eqb (e .segment) (f .segment)) refl) (rw (le-leb (ends e) (starts f) (window-below h)))
     where
       buses : (t : Bool) → eqb (e .segment) (f .segment) ≡ t → shareNoBus e f ≡ true
       buses true s =
