@@ -191,11 +191,13 @@ fn simpler_part(call: &Call, index: usize) -> impl Iterator<Item = Call> {
     let numbers: Rc<[u64]> = part.numbers().into();
     let is_block = matches!(*name, "slot" | "bridge_block");
     let fewer = is_block.then(|| fewer_fields(numbers.clone()));
-    let of_buffer = |numbers: Rc<[u64]>| shorter(numbers.clone()).chain(zero_runs(numbers));
-    let of_buffer = part.is_buffer().then(|| of_buffer(numbers.clone()));
-    let buffers = fewer.into_iter().flatten();
-    let buffers = buffers.chain(of_buffer.into_iter().flatten());
-    buffers.chain(smaller_numbers(numbers)).map(move |numbers| {
+    let is_buffer = part.is_buffer();
+    let shorter = is_buffer.then(|| shorter(numbers.clone()).chain(zero_runs(numbers.clone())));
+    let simpler = fewer
+        .into_iter()
+        .flatten()
+        .chain(shorter.into_iter().flatten());
+    simpler.chain(smaller_numbers(numbers)).map(move |numbers| {
         let mut changed = call.clone();
         changed.parts()[index].1.set_numbers(&numbers);
         changed

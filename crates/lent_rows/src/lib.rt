@@ -23,7 +23,7 @@ fn apart_before(rows: &[BridgeRow], i: usize, row: BridgeRow) -> bool
     true
 }
 
-// The rows judged one after the other, up to the first that is refused. There is one return, so that the array is copied once; it is cleared first, well before that.
+// The rows judged one after the other, up to the first that is refused. There is one return, so that the array is copied in one place; it is cleared first, well before that.
 pub fn judge(mcfg: &[u8], rows: &[BridgeRow]) -> Judged
     ensures { λ r. ⌜ Judges (record { mcfg = now (mcfg .entry); rows = now (rows .entry) }) r ⌝ }
 {

@@ -1,5 +1,4 @@
-//! The limits of document 02, e, each one too low and one too high (the owners' one too low is with the misread starts), and the last of 64
-//! bridges missed.
+//! The limits of document 02, e, each one too low and one too high, and the last of 64 bridges missed.
 
 use trials::call::{Call, FindRecord, Start};
 use trials::given::{Given, Handed};
@@ -46,19 +45,30 @@ fn rows_65_accepted() {
     found_start(make, (HEADER + ENTRY, 65));
 }
 
-fn takes_owner_64_for_63(call: &mut Call) {
+/// Takes one owner for another.
+fn takes_owner<const OWNER: u8, const FOR: u8>(call: &mut Call) {
     if let Call::Start(start) = call {
         let rows = start.rows.lent_mut().iter_mut();
-        rows.filter(|row| row.owner == 64)
-            .for_each(|row| row.owner = 63);
+        rows.filter(|row| row.owner == OWNER)
+            .for_each(|row| row.owner = FOR);
     }
+}
+
+/// The owner of the one row that shows the wrong rule.
+fn found_owner(make: fn() -> Pair) -> u8 {
+    found_start(make, (HEADER + ENTRY, 1)).rows.lent()[0].owner
+}
+
+#[test]
+fn owner_62_the_highest() {
+    let owner = found_owner(|| pair(|wrong, call| instead(wrong, call, takes_owner::<63, 64>)));
+    assert_eq!(owner, 63);
 }
 
 #[test]
 fn owner_64_accepted() {
-    let make = || pair(|wrong, call| instead(wrong, call, takes_owner_64_for_63));
-    let start = found_start(make, (HEADER + ENTRY, 1));
-    assert_eq!(start.rows.lent()[0].owner, 64);
+    let owner = found_owner(|| pair(|wrong, call| instead(wrong, call, takes_owner::<64, 63>)));
+    assert_eq!(owner, 64);
 }
 
 #[test]

@@ -113,21 +113,6 @@ fn refusal_7_for_65_rows_before_6() {
     found_start(make, (0, 65));
 }
 
-fn refuses_owner_63(call: &mut Call) {
-    if let Call::Start(start) = call {
-        let rows = start.rows.lent_mut().iter_mut();
-        rows.filter(|row| row.owner == 63)
-            .for_each(|row| row.owner = 64);
-    }
-}
-
-#[test]
-fn owner_62_the_highest() {
-    let make = || pair(|wrong, call| instead(wrong, call, refuses_owner_63));
-    let start = found_start(make, (60, 1));
-    assert_eq!(start.rows.lent()[0].owner, 63);
-}
-
 fn permits_a_conventional_row_more(call: &mut Call) {
     if let Call::Start(start) = call {
         let rows = start.rows.lent_mut().iter_mut();
