@@ -1,4 +1,4 @@
--- Laws of `sameBytes` and of `sum`.
+-- Laws of `sameBytes`.
 use Prim.Native.Nat.{ℕ, suc, _+_, _<_, _≤_}
 use mathlib.Core.Path.{_≡_, refl, sym, ap, subst}
 use mathlib.Core.List.{List, [], _∷_}
@@ -8,15 +8,7 @@ use lib.Dec.{eqb}
 use lib.ListN.{length, drop, getD, drop-of-length-le}
 use lib.Seq.{drop-cons}
 use borrow.Author.Tests.{eq-eqb, eqb-true}
-use Rattle.rules.specs.Numbers.{sum, sameBytes}
-
--- the sum from byte i on is the byte there and the sum from the next
-pub sum-step : (b : List ℕ) (i : ℕ) → i < length b → sum (drop i b) ≡ getD b i 0 + sum (drop (i + 1) b)
-sum-step b i h = rw (add-one, drop-cons b i 0)
-
--- past the end there is nothing to add
-pub sum-past : (b : List ℕ) (i : ℕ) → length b ≤ i → sum (drop i b) ≡ 0
-sum-past b i h = rw (drop-of-length-le b {i = i} h)
+use Rattle.rules.specs.Numbers.{sameBytes}
 
 -- a string is the same as itself
 same-refl : (a : List ℕ) → sameBytes a a ≡ true

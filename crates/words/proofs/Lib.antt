@@ -1,2 +1,3 @@
 pub mod ByteStrings
 pub mod Stores
+pub mod Sums

@@ -4,6 +4,7 @@ ghost use mathlib.Core.List.{_++_};
 ghost use Prim.Native.Nat.{_+_, _≤_, _<_, _%_};
 ghost use lib.ListN.{length, take, drop};
 ghost use Rattle.rules.specs.Numbers.{word, dword, qword, le32, sum, sameBytes};
+ghost use Rattle.words.specs.Sums.{lanesSum};
 
 // A byte, widened.
 fn wide(x: u8) -> u32
@@ -64,8 +65,8 @@ pub fn same(a: &[u8], b: &[u8]) -> bool
     equal
 }
 
-// All bytes added, modulo 256.
-pub fn byte_sum(b: &[u8]) -> u8
+// The bytes added one at a time, modulo 256.
+pub fn sum_of_bytes(b: &[u8]) -> u8
     ensures { λ r. ⌜ r ≡ sum (now (b .entry)) % 256 ⌝ }
 {
     let mut total: u8 = 0;
@@ -75,4 +76,75 @@ pub fn byte_sum(b: &[u8]) -> u8
         i += 1;
     }
     total
+}
+
+// Eight sums, each modulo 256: one for each byte of a step.
+struct Lanes {
+    l0: u8,
+    l1: u8,
+    l2: u8,
+    l3: u8,
+    l4: u8,
+    l5: u8,
+    l6: u8,
+    l7: u8,
+}
+
+// A step: each of eight bytes is added to a lane. The compiler makes one addition of it.
+fn add_eight(before: Lanes, b: &[u8]) -> Lanes
+    requires { ⌜ length (now b) ≡ 8 ⌝ }
+    ensures { λ r. ⌜ lanesSum r % 256 ≡ (lanesSum before + sum (now (b .entry))) % 256 ⌝ }
+{
+    Lanes {
+        l0: std::num::wrapping_add_u8(before.l0, b[0]),
+        l1: std::num::wrapping_add_u8(before.l1, b[1]),
+        l2: std::num::wrapping_add_u8(before.l2, b[2]),
+        l3: std::num::wrapping_add_u8(before.l3, b[3]),
+        l4: std::num::wrapping_add_u8(before.l4, b[4]),
+        l5: std::num::wrapping_add_u8(before.l5, b[5]),
+        l6: std::num::wrapping_add_u8(before.l6, b[6]),
+        l7: std::num::wrapping_add_u8(before.l7, b[7]),
+    }
+}
+
+// Whole eights of bytes added, modulo 256.
+fn sum_of_eights(b: &[u8]) -> u8
+    requires { ⌜ length (now b) % 8 ≡ 0 ⌝ }
+    ensures { λ r. ⌜ r ≡ sum (now (b .entry)) % 256 ⌝ }
+{
+    let mut lanes = Lanes {
+        l0: 0,
+        l1: 0,
+        l2: 0,
+        l3: 0,
+        l4: 0,
+        l5: 0,
+        l6: 0,
+        l7: 0,
+    };
+    let mut i = 0;
+    while 8 <= b.len() - i {
+        lanes = add_eight(lanes, &b[i..8 + i]);
+        i += 8;
+    }
+    sum_of_bytes(
+        &[
+            lanes.l0,
+            lanes.l1,
+            lanes.l2,
+            lanes.l3,
+            lanes.l4,
+            lanes.l5,
+            lanes.l6,
+            lanes.l7,
+        ],
+    )
+}
+
+// All bytes added, modulo 256: eight to a step, the last few apart.
+pub fn byte_sum(b: &[u8]) -> u8
+    ensures { λ r. ⌜ r ≡ sum (now (b .entry)) % 256 ⌝ }
+{
+    let eights = b.len() - b.len() % 8;
+    std::num::wrapping_add_u8(sum_of_eights(&b[..eights]), sum_of_bytes(&b[eights..]))
 }
