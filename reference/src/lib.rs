@@ -20,6 +20,7 @@ mod rows;
 mod table;
 
 pub use bridge::{BridgeNumber, SessionNumber};
+pub use mcfg::byte_sum;
 pub use osc::granted;
 pub use place::Place;
 pub use records::find_record;

@@ -58,6 +58,11 @@ impl Entry {
     }
 }
 
+/// All bytes added, modulo 256.
+pub fn byte_sum(bytes: &[u8]) -> u8 {
+    bytes.iter().fold(0, |sum, &byte| sum.wrapping_add(byte))
+}
+
 /// No entries, to be filled by `read`.
 pub(crate) fn no_entries() -> Entries {
     Entries::new(Entry::UNUSED)
@@ -75,7 +80,7 @@ pub(crate) fn read(mcfg: &[u8], entries: &mut Entries) -> Option<()> {
         && u32::try_from(mcfg.len()) == Ok(length)
         && revision == REVISION
         && body.len() <= MAX_ENTRIES
-        && mcfg.iter().fold(0, |sum: u8, &byte| sum.wrapping_add(byte)) == 0;
+        && byte_sum(mcfg) == 0;
     if !sound {
         return None;
     }

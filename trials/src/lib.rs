@@ -19,3 +19,4 @@ pub mod row;
 pub mod rows;
 pub mod service;
 pub mod shrink;
+pub mod sums;

@@ -4,16 +4,17 @@ use std::process::ExitCode;
 use std::time::Instant;
 
 use trials::counts::{Counts, FULL_RUN, LEAST};
-use trials::exhaustive::{self, granting};
+use trials::exhaustive::{self, granting, sums};
 use trials::random_trials::{self, Setting};
 use trials::service::{boundary_and_reference, safe_crate_and_reference};
+use trials::sums::{eight_to_a_step, one_to_a_step};
 
 const USAGE: &str = "\
 trials [--calls N] [--seed S] [--exact] [--exhaustive]
 Compares the proved library, and the safe crate over it, with the reference implementation.
   --calls N      the least number of random calls (200000)
   --seed S       the seed of the random calls (1)
-  --exact        every lent buffer is an allocation of exactly its length, for valgrind; no exhaustive comparisons
+  --exact        every lent buffer is an allocation of exactly its length, for valgrind; no exhaustive comparisons but of the sum of bytes
   --exhaustive   the exhaustive comparisons alone";
 
 struct Arguments {
@@ -62,10 +63,12 @@ fn run(arguments: &Arguments) -> Result<(), String> {
     if !arguments.exhaustive_alone {
         random_part(&arguments.setting)?;
     }
-    if !arguments.setting.exact {
-        exhaustive_part()?;
+    if arguments.setting.exact {
+        let strings = sums::exact_lengths(eight_to_a_step)?;
+        println!("no difference in {strings} sums of bytes");
+        return Ok(());
     }
-    Ok(())
+    exhaustive_part()
 }
 
 fn random_part(setting: &Setting) -> Result<(), String> {
@@ -111,6 +114,15 @@ fn exhaustive_part() -> Result<(), String> {
         "every permitted, held and requested set of bits 0 to 5",
         sets,
     );
+    for (sum, name) in [
+        (
+            eight_to_a_step as fn(&[u8]) -> u8,
+            "the sum of 0 to 64 bytes, and of as many as 0 to 64 entries have",
+        ),
+        (one_to_a_step, "the same, a byte to a step"),
+    ] {
+        tell(name, sums::every_length(sum).map_err(differs)?);
+    }
     exhaustive::run(boundary_and_reference, &mut tell).map_err(differs)?;
     exhaustive::run(safe_crate_and_reference, &mut |_, _| ()).map_err(differs)?;
     println!(

@@ -7,6 +7,8 @@ pub const BUS_BYTES: u64 = 1 << 20;
 const BUSES_TO_END: u64 = 1 << 44;
 pub const HEADER: usize = 44;
 pub const ENTRY: usize = 16;
+/// The byte that makes all bytes sum to a multiple of 256.
+pub const CHECKSUM: usize = 9;
 pub const MOST_ENTRIES: usize = 64;
 
 #[derive(Clone, Copy, Debug, PartialEq, Eq)]
@@ -62,8 +64,8 @@ pub fn mend(bytes: &mut [u8]) {
 }
 
 pub fn mend_checksum(bytes: &mut [u8]) {
-    let sum = bytes.iter().fold(0u8, |sum, byte| sum.wrapping_add(*byte));
-    if let Some(checksum) = bytes.get_mut(9) {
+    let sum = reference::byte_sum(bytes);
+    if let Some(checksum) = bytes.get_mut(CHECKSUM) {
         *checksum = checksum.wrapping_sub(sum);
     }
 }
@@ -208,7 +210,7 @@ fn spoiled_bytes(random: &mut Random, mut bytes: Vec<u8>) -> Vec<u8> {
         }
         3 => bytes[8] = random.pick(&[0, 2, 3, 255]),
         4 => {
-            bytes[9] = bytes[9].wrapping_add(random.pick(&[1, 255, 0x80]));
+            bytes[CHECKSUM] = bytes[CHECKSUM].wrapping_add(random.pick(&[1, 255, 0x80]));
             return bytes;
         }
         5 => {

@@ -4,6 +4,7 @@ mod blocks;
 pub mod granting;
 mod places;
 mod starts;
+pub mod sums;
 
 use crate::call::Call;
 use crate::comparison;
@@ -15,7 +16,7 @@ use crate::service::Pair;
 /// The name of each comparison, and the comparison: the count of its calls, or a difference in words.
 type Comparison = (&'static str, fn(fn() -> Pair) -> Result<u64, String>);
 
-const COMPARISONS: [Comparison; 12] = [
+const COMPARISONS: [Comparison; 13] = [
     (
         "every offset with every width, and numbers beyond",
         places::offsets_and_widths,
@@ -35,6 +36,10 @@ const COMPARISONS: [Comparison; 12] = [
     (
         "every number of rows, and of entries, to 2 past the most",
         starts::numbers,
+    ),
+    (
+        "an MCFG table of every length to 2 entries past the most, its checksum right and wrong",
+        starts::lengths,
     ),
     (
         "every two of 64 rows that share a bus, and of 64 entries that share a bus or a byte",

@@ -1,9 +1,9 @@
-//! Starts from an MCFG table with one byte changed, or a row with one number changed; of every number of rows and entries; with two of them
-//! that share something.
+//! Starts from an MCFG table with one byte changed, or a row with one number changed; of every number of rows and entries, and every length
+//! of the table; with two of them that share something.
 
 use super::Bench;
 use crate::call::{Address, Start};
-use crate::mcfg::{self, Entry, MOST_ENTRIES};
+use crate::mcfg::{self, CHECKSUM, Entry, MOST_ENTRIES};
 use crate::random::Random;
 use crate::requests::{self, QUERY};
 use crate::row::{CONVENTIONAL, NUMBERS, Row};
@@ -121,6 +121,23 @@ pub fn numbers(make: fn() -> Pair) -> Result<u64, String> {
             .last()
             .map(|last| Row::express(63, last.segment, 0, 255));
         start(&mut bench, &mcfg, in_last.as_slice())?;
+    }
+    Ok(bench.count)
+}
+
+/// Tables of every length, whose length field is right: with the right checksum, and with one more. Only of whole entries is the sum
+/// taken.
+pub fn lengths(make: fn() -> Pair) -> Result<u64, String> {
+    let mut bench = Bench::new(make, Vec::new())?;
+    let longest = mcfg::table(&mut Random::new(0), &many_entries(MOST_ENTRIES + 2));
+    for length in 0..=longest.len() {
+        let mut table = longest[..length].to_vec();
+        mcfg::mend(&mut table);
+        start(&mut bench, &table, &[])?;
+        if let Some(checksum) = table.get_mut(CHECKSUM) {
+            *checksum = checksum.wrapping_add(1);
+        }
+        start(&mut bench, &table, &[])?;
     }
     Ok(bench.count)
 }

@@ -9,6 +9,7 @@ mod misread;
 mod misread_starts;
 mod narrowed;
 mod sessions;
+mod sums;
 mod wrong;
 
 use trials::counts::Counts;

@@ -1,5 +1,6 @@
 //! Rules of document 01 misread: the MCFG table and the starting list.
 
+use reference::byte_sum;
 use trials::call::{Call, Start};
 use trials::given::{Given, Handed};
 use trials::mcfg;
@@ -54,13 +55,9 @@ fn mcfg_revision_3_accepted() {
     found_start(|| pair(takes_revision::<3>), (44, 0));
 }
 
-fn sum(bytes: &[u8]) -> u8 {
-    bytes.iter().fold(0, |sum, byte| sum.wrapping_add(*byte))
-}
-
 fn sums_modulo_128(call: &mut Call) {
     if let Call::Start(Start { mcfg, .. }) = call
-        && sum(mcfg.lent()) == 128
+        && byte_sum(mcfg.lent()) == 128
     {
         mcfg::mend_checksum(mcfg.lent_mut());
     }
@@ -73,7 +70,10 @@ fn a_sum_modulo_128() {
     let [Call::Start(start)] = &found.list[..] else {
         panic!("{}", found.report());
     };
-    assert_eq!((sum(start.mcfg.lent()), start.rows.lent().len()), (128, 0));
+    assert_eq!(
+        (byte_sum(start.mcfg.lent()), start.rows.lent().len()),
+        (128, 0)
+    );
 }
 
 fn has_reserved_bytes(start: &Start) -> bool {
