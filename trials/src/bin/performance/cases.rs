@@ -3,6 +3,7 @@
 use std::hint::black_box;
 
 use slipwattle::sys;
+use trials::mcfg::CHECKSUM;
 use trials::requests::UUID;
 
 use crate::inputs::{
@@ -73,7 +74,7 @@ fn starts(run: &mut impl Runner) {
     let falling = "start, 64 entries from the last to the first, 64 rows";
     start(run, falling, &falling_table(64), &in_many);
     let mut wrong_sum = many.clone();
-    wrong_sum[9] ^= 1;
+    wrong_sum[CHECKSUM] ^= 1;
     start(
         run,
         "start, wrong checksum, 64 entries: refusal 6",

@@ -7,6 +7,7 @@ use std::env;
 use std::process::Command;
 
 use crate::cases::{self, Runner};
+use crate::million;
 use crate::timing::repeat;
 
 /// The first argument of a run that makes calls and nothing else; the case, the side and the number of calls follow.
@@ -52,6 +53,7 @@ pub fn make(arguments: &[String]) -> Option<()> {
     };
     making.case(NOTHING, || (), || ());
     cases::all(&mut making);
+    million::cases(&mut making);
     Some(())
 }
 

@@ -1,5 +1,7 @@
 //! What the calls are given: MCFG tables, rows, tables, record blocks.
 
+use std::iter;
+
 use slipwattle::sys;
 use trials::blocks::{MOST_BYTES, field, numbers_field};
 use trials::mcfg::{self, Entry};
@@ -18,15 +20,25 @@ pub fn falling_table(entries: u8) -> Vec<u8> {
     table_of((0..entries).rev())
 }
 
+/// The table of so many entries again and again, each time with other bytes where no rule reads them.
+pub fn sound_tables(entries: u8) -> impl Iterator<Item = Vec<u8>> {
+    let entries = entries_of(0..entries);
+    let mut random = Random::new(1);
+    iter::repeat_with(move || mcfg::table(&mut random, &entries))
+}
+
 fn table_of(entries: impl Iterator<Item = u8>) -> Vec<u8> {
+    mcfg::table(&mut Random::new(1), &entries_of(entries))
+}
+
+fn entries_of(numbers: impl Iterator<Item = u8>) -> Vec<Entry> {
     let entry = |k: u8| Entry {
         base: (u64::from(k) + 1) << 32,
         segment: k.into(),
         start: 0,
         end: 255,
     };
-    let entries: Vec<Entry> = entries.map(entry).collect();
-    mcfg::table(&mut Random::new(1), &entries)
+    numbers.map(entry).collect()
 }
 
 /// Row `k` of owner `k`: 4 buses of segment `k` or, where all are in one, of segment 0.

@@ -1,11 +1,14 @@
 //! Each public call of the proved library beside the same call of the reference, on the same inputs: how long it takes, and how many
-//! instructions. Prints the figures; with the path of a document, writes them between its two marks.
+//! instructions; then the sum of an MCFG table in several ways. Prints the figures; with the path of a document, writes them between its
+//! marks.
 
 mod cases;
 mod counting;
 mod document;
 mod inputs;
+mod million;
 mod requests;
+mod sums;
 mod timing;
 
 use std::process::ExitCode;
@@ -19,7 +22,7 @@ fn main() -> ExitCode {
             counting::make(case).ok_or("no such calls".to_string())
         }
         [] => {
-            print!("{}", figures());
+            print!("{}\n{}", figures(), sums());
             Ok(())
         }
         [path] => write(path),
@@ -41,8 +44,18 @@ fn figures() -> String {
     document::figures_as_text(&timing.figures, instructions.as_deref())
 }
 
+fn sums() -> String {
+    let sums = million::timed();
+    let instructions = counting::instructions(sums.iter().map(|sums| sums.name));
+    document::sums_as_text(&sums, instructions.as_deref())
+}
+
 fn write(path: &str) -> Result<(), String> {
-    let text = figures();
-    print!("{text}");
-    document::write_between_marks(path, &text).map_err(|error| format!("{path}: {error}"))
+    for (mark, make) in [("figures", figures as fn() -> String), ("sums", sums)] {
+        let text = make();
+        println!("{text}");
+        document::write_between_marks(path, mark, &text)
+            .map_err(|error| format!("{path}: {error}"))?;
+    }
+    Ok(())
 }

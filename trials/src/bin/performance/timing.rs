@@ -96,7 +96,8 @@ impl Runner for Timing {
     }
 }
 
-fn rising(mut numbers: [f64; REPEATS]) -> [f64; REPEATS] {
+/// The numbers in rising order.
+pub fn rising(mut numbers: [f64; REPEATS]) -> [f64; REPEATS] {
     numbers.sort_by(f64::total_cmp);
     numbers
 }
