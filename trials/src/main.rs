@@ -114,15 +114,13 @@ fn exhaustive_part() -> Result<(), String> {
         "every permitted, held and requested set of bits 0 to 5",
         sets,
     );
-    for (sum, name) in [
-        (
-            eight_to_a_step as fn(&[u8]) -> u8,
-            "the sum of 0 to 64 bytes, and of as many as 0 to 64 entries have",
-        ),
-        (one_to_a_step, "the same, a byte to a step"),
-    ] {
-        tell(name, sums::every_length(sum).map_err(differs)?);
-    }
+    let strings = sums::every_length(eight_to_a_step).map_err(differs)?;
+    tell(
+        "the sum of 0 to 64 bytes, and of as many as 0 to 64 entries have",
+        strings,
+    );
+    let strings = sums::every_length(one_to_a_step).map_err(differs)?;
+    tell("the same, a byte to a step", strings);
     exhaustive::run(boundary_and_reference, &mut tell).map_err(differs)?;
     exhaustive::run(safe_crate_and_reference, &mut |_, _| ()).map_err(differs)?;
     println!(
