@@ -80,17 +80,17 @@ fn words_added_as_they_are() {
     assert_eq!(found_at(wrong), 16);
 }
 
-/// A lane of 16 bits takes two bytes in a step. It has room for 128 steps, and may then carry into the next lane.
+/// A sum of 16 bits takes two bytes in a step. It has room for 128 steps, and may then carry into the next.
 #[test]
-fn lanes_that_carry_in_a_long_table() {
+fn sums_of_16_bits_that_carry_in_a_long_table() {
     let wrong = |b: &[u8]| {
         const EVERY_SECOND: u64 = 0x00FF_00FF_00FF_00FF;
         let (eights, rest) = b.as_chunks::<8>();
-        let lanes = eights.iter().fold(0, |lanes: u64, eight| {
+        let sums = eights.iter().fold(0, |sums: u64, eight| {
             let word = u64::from_le_bytes(*eight);
-            lanes.wrapping_add((word & EVERY_SECOND) + (word >> 8 & EVERY_SECOND))
+            sums.wrapping_add((word & EVERY_SECOND) + (word >> 8 & EVERY_SECOND))
         });
-        let sum = lanes
+        let sum = sums
             .to_le_bytes()
             .into_iter()
             .step_by(2)

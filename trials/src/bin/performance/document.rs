@@ -99,7 +99,7 @@ fn counted(instructions: Option<&[[u64; 2]]>, index: usize) -> String {
 /// Each way to sum a table: its times and its instructions.
 pub fn sums_as_text(sums: &[Sums], instructions: Option<&[[u64; 2]]>) -> String {
     let mut text = format!(
-        "A million sound tables of {ENTRIES} entries, {BYTES} bytes each; a few are {FEW} of them, again and again until there are a million sums.\n\
+        "A million sound tables of {ENTRIES} entries, {BYTES} bytes each; a few are {FEW} of them, a million sums too.\n\
         {REPEATS} repeats, in each of which the ways took turns; nanoseconds a sum, the median.\n\n"
     );
     text += &heading(&SUM_COLUMNS);
