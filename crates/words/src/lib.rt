@@ -90,7 +90,7 @@ struct Lanes {
     l7: u8,
 }
 
-// A step: each of eight bytes is added to a lane. The compiler makes one addition of it.
+// A step: each of eight bytes is added to a lane.
 fn add_eight(before: Lanes, b: &[u8]) -> Lanes
     requires { ⌜ length (now b) ≡ 8 ⌝ }
     ensures { λ r. ⌜ lanesSum r % 256 ≡ (lanesSum before + sum (now (b .entry))) % 256 ⌝ }
