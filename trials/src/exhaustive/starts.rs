@@ -125,8 +125,8 @@ pub fn numbers(make: fn() -> Pair) -> Result<u64, String> {
     Ok(bench.count)
 }
 
-/// Tables of every length, whose length field is right: with the right checksum, and with one more. Only of whole entries is the sum
-/// taken.
+/// Tables of every length, whose length field is right: with the right checksum, and with one more. The sum is taken of at most 64
+/// whole entries.
 pub fn lengths(make: fn() -> Pair) -> Result<u64, String> {
     let mut bench = Bench::new(make, Vec::new())?;
     let longest = mcfg::table(&mut Random::new(0), &many_entries(MOST_ENTRIES + 2));

@@ -7,9 +7,9 @@ type Sum = fn(&[u8]) -> u8;
 
 /// Eight steps of eight bytes.
 const SHORT: usize = 64;
-/// The places that a string has in eight bytes.
-const PLACES: usize = 8;
-const ROOM: usize = HEADER + ENTRY * MOST_ENTRIES + PLACES;
+/// From one multiple of eight bytes to the next.
+const ALIGNMENTS: usize = 8;
+const ROOM: usize = HEADER + ENTRY * MOST_ENTRIES + ALIGNMENTS;
 
 /// 0 to 64 bytes, and as many as tables of more have, to 64 entries.
 fn lengths() -> impl Iterator<Item = usize> {
@@ -17,14 +17,14 @@ fn lengths() -> impl Iterator<Item = usize> {
     (0..=SHORT).chain(of_tables.filter(|length| *length > SHORT))
 }
 
-/// Strings of each length, of random bytes and of the greatest: at each place in eight bytes, with more bytes around it; and with each
+/// Strings of each length, of random bytes and of the greatest: at each alignment, with more bytes around it; and with each
 /// byte changed, to every value in a short string.
 pub fn every_length(sum: Sum) -> Result<u64, String> {
     let mut count = 0;
     for length in lengths() {
         for mut bytes in [Random::new(0).bytes(ROOM), vec![u8::MAX; ROOM]] {
-            for place in 0..PLACES {
-                count += compare(sum, &bytes[place..place + length])?;
+            for alignment in 0..ALIGNMENTS {
+                count += compare(sum, &bytes[alignment..alignment + length])?;
             }
             count += changed_bytes(sum, &mut bytes[..length])?;
         }
