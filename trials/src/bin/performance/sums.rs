@@ -11,7 +11,7 @@ pub struct Way {
     pub sum: fn(&[u8]) -> u8,
 }
 
-pub const WAYS: [Way; 6] = [
+pub const WAYS: [Way; 8] = [
     Way {
         name: "the proved library's: eight bytes to a step, eight sums",
         sum: |bytes| eight_to_a_step(bytes),
@@ -29,12 +29,20 @@ pub const WAYS: [Way; 6] = [
         sum: |bytes| reference::byte_sum(bytes),
     },
     Way {
+        name: "in Rust: eight bytes to a step, eight sums",
+        sum: |bytes| eight_sums(bytes),
+    },
+    Way {
+        name: "in Rust: eight bytes to a step, eight sums in a u64",
+        sum: |bytes| eight_sums_in_a_u64(bytes),
+    },
+    Way {
         name: "in Rust: eight bytes to a step, one sum",
         sum: |bytes| one_sum(bytes),
     },
     Way {
         name: "in Rust: eight bytes to a step, four sums in a u64",
-        sum: |bytes| four_sums(bytes),
+        sum: |bytes| four_sums_in_a_u64(bytes),
     },
 ];
 
@@ -57,6 +65,30 @@ fn kept_scalar(bytes: &[u8]) -> u8 {
 }
 
 #[inline(never)]
+fn eight_sums(bytes: &[u8]) -> u8 {
+    let (eights, rest) = bytes.as_chunks::<8>();
+    let mut sums = [0u8; 8];
+    for eight in eights {
+        for (sum, byte) in sums.iter_mut().zip(eight) {
+            *sum = sum.wrapping_add(*byte);
+        }
+    }
+    added(added(0, &sums), rest)
+}
+
+/// The top bit of each sum is added apart, so that none carries into the next.
+#[inline(never)]
+fn eight_sums_in_a_u64(bytes: &[u8]) -> u8 {
+    const TOP: u64 = 0x8080_8080_8080_8080;
+    let (eights, rest) = bytes.as_chunks::<8>();
+    let sums = eights.iter().fold(0, |sums: u64, eight| {
+        let word = u64::from_le_bytes(*eight);
+        ((sums & !TOP) + (word & !TOP)) ^ ((sums ^ word) & TOP)
+    });
+    added(added(0, &sums.to_le_bytes()), rest)
+}
+
+#[inline(never)]
 fn one_sum(bytes: &[u8]) -> u8 {
     let (eights, rest) = bytes.as_chunks::<8>();
     let total = eights.iter().fold(0, |total, eight| added(total, eight));
@@ -65,7 +97,7 @@ fn one_sum(bytes: &[u8]) -> u8 {
 
 /// Each sum has 16 bits and takes two bytes in a step, so that there is room for 128 steps.
 #[inline(never)]
-fn four_sums(bytes: &[u8]) -> u8 {
+fn four_sums_in_a_u64(bytes: &[u8]) -> u8 {
     const EVERY_SECOND: u64 = 0x00FF_00FF_00FF_00FF;
     let (eights, rest) = bytes.as_chunks::<8>();
     let total = eights.chunks(128).fold(0, |total: u8, steps| {
