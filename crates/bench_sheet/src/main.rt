@@ -1,5 +1,5 @@
 // The bench sheet of document 01, line by line in its order, through the calls; its fourth line as document 02, b, has it, its numbers of rows as e has them, and at the end as many
-// entries. P permitted, H held, R requested, G granted.
+// entries and the register that f works out. P permitted, H held, R requested, G granted.
 use print::bytes;
 use print::decimal;
 use print::end;
@@ -8,18 +8,11 @@ use print::text;
 use rules::BridgeNumber;
 use rules::SessionNumber;
 use rules::Table;
-ghost use Prim.Native.Nat.{_≤_};
+ghost use Prim.Native.Nat.{_<_, _≤_};
 ghost use Rattle.rules.specs.Start.{Sound};
 
 // The base of the MCFG entry, where the sheet names no other.
 const BASE: u64 = 0xe000_0000;
-
-// Every register's current value, and the masks of the type 2 record.
-const CURRENT: u32 = 0x2110;
-
-const AND: u32 = 0xffff_fff0;
-
-const OR: u32 = 0x6;
 
 // Tag 0, length 3, and 3 bytes: the field ends where the block does.
 const LENGTH_3: [u8; 6] = *b"\x00\x03\x00\x01\x00\x00";
@@ -145,11 +138,13 @@ fn entries(count: usize)
     sound(BASE, 255, count);
 }
 
-// Uncorrectable Error Mask, register 0, where bits 0 and 4 are held and AER is not.
-fn register() {
+// Register k of a card whose registers all have this value, by a record with the same pair for each, where bits 0 and 4 are held and AER is not.
+fn register(words: &[u8], k: usize, value: u32, and: u32, or: u32)
+    requires { ⌜ k < 8 ⌝ }
+{
     let t = fixtures::take(begin(0x1f), 0, 0x11);
-    let block = fixtures::settings(AND, OR);
-    let current = [CURRENT; 8];
+    let block = fixtures::settings(and, or);
+    let current = [value; 8];
     let slot = [0u8; 0];
     let v = bridges::register_values(
         t,
@@ -160,11 +155,12 @@ fn register() {
         &current,
     );
     let new = v.values;
-    bits(b"current ", CURRENT, 1);
-    bits(b", AND ", AND, 1);
-    bits(b", OR ", OR, 1);
+    text(words);
+    bits(b"current ", value, 1);
+    bits(b", AND ", and, 1);
+    bits(b", OR ", or, 1);
     decimal(b": number ", v.number as u64);
-    bits(b", new ", new[0], 1);
+    bits(b", new ", new[k], 1);
     end();
 }
 
@@ -228,7 +224,7 @@ fn main() {
     entry(0xffff_ffff_f000_0000, 255);
     entry(0xffff_ffff_f010_0000, 255);
     entry(0xffff_ffff_f010_0000, 254);
-    register();
+    register(b"", 0, 0x2110, 0xffff_fff0, 0x6);
     search(b"42-byte block", &fixtures::EXAMPLE_BLOCK, 0);
     search(b"42-byte block", &fixtures::EXAMPLE_BLOCK, 1);
     search(b"42-byte block", &fixtures::EXAMPLE_BLOCK, 2);
@@ -241,4 +237,5 @@ fn main() {
     search(b"tag 0 length 3", &LENGTH_3, 0);
     entries(64);
     entries(65);
+    register(b"Device Control, ", 4, 0x2810, 0x5020, 0x5020);
 }

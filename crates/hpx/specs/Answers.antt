@@ -1,15 +1,11 @@
 -- Document 01, "Record blocks and register values": what the register values answer.
 use Prim.Native.Nat.{ℕ, zero, suc}
-use mathlib.Core.Bool.{Bool, cond}
+use mathlib.Core.Bool.{Bool}
 use mathlib.Core.List.{List}
 use mathlib.Core.Option.{Option, none, some}
 use lib.ListN.{replicate}
-use Rattle.rules.specs.Records.{andMask, orMask, andOr, newValues}
+use Rattle.rules.specs.Records.{newValues}
 use Rattle.rules.specs.declared.Field.{Field}
-
--- register k stays, or is "(current AND mask) OR mask" by its pair of the record
-abbrev pub keptOrNew : (stays : Bool) → List ℕ → Field → (k current : ℕ) → ℕ
-keptOrNew stays l f k current = cond stays current (andOr current (andMask l f k) (orMask l f k))
 
 -- by the number: 0 hands back the new values, any other zeros
 abbrev pub valuesAt : ℕ → (aerHeld : Bool) → List ℕ → (current : List ℕ) → Option Field → List ℕ

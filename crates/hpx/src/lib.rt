@@ -6,9 +6,9 @@ ghost use mathlib.Core.Path.{_≡_};
 ghost use mathlib.Core.Bool.{false};
 ghost use Prim.Native.Nat.{_+_, _<_, _≤_};
 ghost use lib.ListN.{length, getD};
-ghost use Rattle.rules.specs.Records.{fieldAt, deciding, recordIn, recordRefusals, findRecord, part, decidingAt, partAt, registersBad, newValues};
+ghost use Rattle.rules.specs.Records.{fieldAt, deciding, recordIn, recordRefusals, findRecord, part, decidingAt, partAt, registersBad, sizesKept, newValue, newValues};
 ghost use Rattle.rules.specs.Refusals.{firstOf};
-ghost use Rattle.hpx.specs.Answers.{keptOrNew, valuesAt};
+ghost use Rattle.hpx.specs.Answers.{valuesAt};
 
 // If the slot's block is not empty it alone decides.
 pub fn deciding<'a>(slot: &'a [u8], block: &'a [u8]) -> &'a [u8]
@@ -64,20 +64,32 @@ pub fn registers_bad(current: &[u32]) -> bool
     (65535 < current[4]) | (65535 < current[5])
 }
 
-// The new value of register k by the record that starts at this byte of the block, or the current one.
-fn register(b: &[u8], start: usize, current: &[u32], k: usize, stays: bool) -> u32
-    requires { ⌜ (length (now current) ≡ 8) × (71 + start ≤ length (now b)) × (k < 8) ⌝ }
-    ensures { λ r. ⌜ r ≡ keptOrNew stays (now (b .entry)) (fieldAt (now (b .entry)) start) k (getD (now (current .entry)) k 0) ⌝ }
+// Bits 5 to 7 and 12 to 14 keep their current value, the rest are those computed.
+fn sizes_kept(current: u32, computed: u32) -> u32
+    ensures { λ r. ⌜ r ≡ sizesKept current computed ⌝ }
 {
-    if stays {
-        return current[k];
+    (computed & 0xffff_8f1f) | (current & 0x70e0)
+}
+
+// The new value of register k by the record that starts at this byte of the block. Device Control and Link Control are 4 and 5.
+fn register(b: &[u8], start: usize, current: &[u32], k: usize, aer: bool) -> u32
+    requires { ⌜ (length (now current) ≡ 8) × (71 + start ≤ length (now b)) × (k < 8) ⌝ }
+    ensures { λ r. ⌜ r ≡ newValue aer (now (b .entry)) (fieldAt (now (b .entry)) start) k (getD (now (current .entry)) k 0) ⌝ }
+{
+    let value = current[k];
+    if aer & (k != 4) & (k != 5) {
+        return value;
     }
     let and = words::read32(b, 3 + 4 * (1 + 2 * k) + start);
     let or = words::read32(b, 3 + 4 * (2 + 2 * k) + start);
-    (current[k] & and) | or
+    let computed = (value & and) | or;
+    if k == 4 {
+        return sizes_kept(value, computed);
+    }
+    computed
 }
 
-// The eight new values of the record that starts at this byte of the block. Device Control and Link Control, 4 and 5, never stay.
+// The eight new values of the record that starts at this byte of the block.
 pub fn new_values(b: &[u8], start: usize, current: &[u32], aer: bool) -> [u32; 8]
     requires { ⌜ (length (now current) ≡ 8) × (71 + start ≤ length (now b)) ⌝ }
     ensures { λ r. ⌜ r ≡ newValues aer (now (b .entry)) (fieldAt (now (b .entry)) start) 0 (now (current .entry)) ⌝ }
@@ -87,8 +99,8 @@ pub fn new_values(b: &[u8], start: usize, current: &[u32], aer: bool) -> [u32; 8
         register(b, start, current, 1, aer),
         register(b, start, current, 2, aer),
         register(b, start, current, 3, aer),
-        register(b, start, current, 4, false),
-        register(b, start, current, 5, false),
+        register(b, start, current, 4, aer),
+        register(b, start, current, 5, aer),
         register(b, start, current, 6, aer),
         register(b, start, current, 7, aer),
     ]

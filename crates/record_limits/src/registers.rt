@@ -101,6 +101,15 @@ fn blocks<'a>(words: &[u8], slot: &'a [u8], block: &'a [u8]) {
     came(asked(0x11, slot, block, &current(8, 0), 8));
 }
 
+// Every register has this value, and the record the same pair for each; bridge 0 holds these bits.
+fn every(control: u32, value: u32, and: u32, or: u32) {
+    print::hexes(
+        b"every",
+        &[control as u64, value as u64, and as u64, or as u64],
+    );
+    came(asked(control, b"", &fixtures::settings(and, or), &[value; 8], 8));
+}
+
 // "Register values 1, 2, 11, 10, 8, 9." A block of 1 byte is not sound, the one of 3 has a field that is skipped.
 fn orders() {
     print::text(b"(values: session, bridge, number of registers, bytes of the block)\n");
@@ -151,6 +160,18 @@ fn deciding() {
     blocks(b"record behind others", b"", &LIMITS);
 }
 
+// Document 02, f: in Device Control "bits 5 to 7 and 12 to 14 keep their current value whatever the record says"
+fn sizes() {
+    every(0x11, 0x2810, 0x5020, 0x5020);
+    every(0x19, 0x2810, 0x5020, 0x5020);
+    every(0x11, 0, 0xffff, 0xffff);
+    every(0x11, 0x70e0, 0, 0);
+    every(0x11, 0x8f1f, 0, 0);
+    every(0x11, 0xffff, 0, 0);
+    every(0x19, 0xffff, 0, 0);
+    every(0x11, 0x2810, 0xffff, 0);
+}
+
 pub fn lines() {
     print::text(b"Register values\n");
     orders();
@@ -158,4 +179,6 @@ pub fn lines() {
     control();
     lists();
     deciding();
+    print::text(b"(every: control bits, every register's value, its AND mask, its OR mask)\n");
+    sizes();
 }

@@ -6,16 +6,17 @@ use Rattle.rules.specs.Numbers.{bit}
 use Rattle.rules.specs.Mcfg.{entries, mcfgSound}
 use Rattle.rules.specs.Start.{rowsSound, startNumber, startTable}
 use Rattle.rules.specs.Osc.{granted, framingBad, recognised, oscAnswer, oscAfter}
-use Rattle.rules.specs.Records.{fieldsOf, blockSound, recordIn}
+use Rattle.rules.specs.Records.{fieldsOf, blockSound, recordIn, sizesKept}
 use Rattle.rules.specs.Calls.{step}
 use Rattle.rules.specs.BenchRuns.{ExampleRuns}
 
 pub example-runs : ExampleRuns
-unfolding maxRows maxEntries maxOwner maxBlock bit entries mcfgSound rowsSound startNumber startTable granted framingBad recognised oscAnswer oscAfter fieldsOf blockSound recordIn step
+unfolding maxRows maxEntries maxOwner maxBlock bit entries mcfgSound rowsSound startNumber startTable granted framingBad recognised oscAnswer oscAfter fieldsOf blockSound recordIn sizesKept step
 example-runs = (
   (refl, (refl, (refl, (refl, (refl, (refl, (refl, (refl, (refl, (refl, (refl, (refl, (refl, (refl, (refl, (refl, (refl, (refl, (refl, (refl, (refl, (refl, (refl, (refl, (refl, (refl, (refl, (refl, tt)))))))))))))))))))))))))))),
   (refl, tt),
   (refl, (refl, (refl, (refl, (refl, (refl, (refl, (refl, (refl, (refl, (refl, (refl, (refl, (refl, (refl, (refl, tt)))))))))))))))),
+  (refl, (refl, (refl, (refl, (refl, tt))))),
   (refl, (refl, (refl, (refl, (refl, tt))))),
   (refl, (refl, (refl, (refl, (refl, (refl, (refl, (refl, (refl, (refl, (refl, (refl, (refl, tt))))))))))))),
 )

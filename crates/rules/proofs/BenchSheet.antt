@@ -3,9 +3,9 @@ use mathlib.Core.Path.{refl}
 use Rattle.rules.specs.Limits.{maxBlock}
 use Rattle.rules.specs.Numbers.{bit}
 use Rattle.rules.specs.Osc.{granted, framingBad, recognised, oscAnswer, oscAfter}
-use Rattle.rules.specs.Records.{fieldsOf, blockSound}
+use Rattle.rules.specs.Records.{fieldsOf, blockSound, sizesKept}
 use Rattle.rules.specs.BenchSheet.{BenchSheet}
 
 pub bench-sheet : BenchSheet
-unfolding maxBlock bit granted framingBad recognised oscAnswer oscAfter fieldsOf blockSound
-bench-sheet = (refl, (refl, (refl, (refl, (refl, (refl, (refl, (refl, (refl, (refl, (refl, (refl, tt))))))))))))
+unfolding maxBlock bit granted framingBad recognised oscAnswer oscAfter fieldsOf blockSound sizesKept
+bench-sheet = (refl, (refl, (refl, (refl, (refl, (refl, (refl, (refl, (refl, (refl, (refl, (refl, (refl, tt)))))))))))))

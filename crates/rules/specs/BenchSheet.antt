@@ -1,11 +1,12 @@
--- The bench sheet: each starred line, with what the definitions give and what the sheet states. P permitted, H held, R requested, G granted.
-use Prim.Native.Nat.{ℕ}
+-- The bench sheet: each starred line, and what document 02, f, works out, with what the definitions give and what the document states. P permitted, H held, R requested, G granted.
+use Prim.Native.Nat.{ℕ, zero, suc}
 use mathlib.Core.Path.{_≡_}
 use mathlib.Core.Bool.{true, false}
-use mathlib.Core.List.{List, [], _∷_}
+use mathlib.Core.List.{List, [], _∷_, _++_}
 use lib.ListN.{replicate}
+use Rattle.rules.specs.Numbers.{le32}
 use Rattle.rules.specs.Mcfg.{entrySound}
-use Rattle.rules.specs.Records.{andOr, blockSound}
+use Rattle.rules.specs.Records.{fieldAt, deviceControl, blockSound, andOr, newValue}
 use Rattle.rules.specs.Calls.{Operation, osc, address, addressed, Outcome, outcome, numberAt, outcomeBy, bridgeBy}
 use Rattle.rules.specs.Claims.{answerOf}
 use Rattle.rules.specs.declared.Bridge.{Bridge}
@@ -43,7 +44,20 @@ oscOn p h caps =
     let o = osc 1 3 (0x5B ∷ 0x4D ∷ 0xDB ∷ 0x33 ∷ 0xF7 ∷ 0x1F ∷ 0x1C ∷ 0x40 ∷ 0x96 ∷ 0x57 ∷ 0x74 ∷ 0x41 ∷ 0xC0 ∷ 0x3D ∷ 0xD7 ∷ 0x66 ∷ []) caps (replicate 12 0xAA) in
     record { answer = answerOf (outcomeOn b o); held = bridgeBy (numberOn b o) b o .held }
 
--- the starred lines, in order
+-- n times the same AND/OR pair
+abbrev pub pairs : ℕ → (and or : ℕ) → List ℕ
+pairs zero and or = []
+pairs (suc n) and or = le32 and ++ le32 or ++ pairs n and or
+
+-- a block that is one type 2 record with the same pair for every register
+abbrev pub samePairs : (and or : ℕ) → List ℕ
+samePairs and or = 2 ∷ 68 ∷ 0 ∷ 1 ∷ 0 ∷ 0 ∷ 0 ∷ pairs 8 and or
+
+-- the new value of register k by it
+abbrev pub registerOn : (k current and or : ℕ) → ℕ
+registerOn k current and or = newValue false (samePairs and or) (fieldAt (samePairs and or) 0) k current
+
+-- the starred lines, in order; then the value that document 02, f, works out
 abbrev pub sheet : List Line
 sheet =
     -- query, DWORDs 01000000 1F000000 1F000000, P 0x1F, H 0: answer 00000000 1F000000 1F000000, H 0
@@ -77,6 +91,8 @@ sheet =
     ∷ (blockSound (
     0x00 ∷ 0x14 ∷ 0x00 ∷ 1 ∷ 0 ∷ 0 ∷ 0 ∷ 8 ∷ 0 ∷ 0 ∷ 0 ∷ 0x40 ∷ 0 ∷ 0 ∷ 0 ∷ 1 ∷ 0 ∷ 0 ∷ 0 ∷ 0 ∷ 0 ∷ 0 ∷ 0
     ∷ 0x01 ∷ 0x10 ∷ 0x00 ∷ 1 ∷ 0 ∷ 0 ∷ 0 ∷ 3 ∷ 0 ∷ 0 ∷ 0 ∷ 4 ∷ 0 ∷ 0 ∷ 0 ∷ 7 ∷ 0 ∷ 0 ∷ 0 ∷ []) gives true)
+    -- document 02, f: Device Control, current 0x2810, AND 0x5020, OR 0x5020: 0x2000
+    ∷ (registerOn deviceControl 0x2810 0x5020 0x5020 gives 0x2000)
     ∷ []
 
 abbrev pub BenchSheet : Type 0

@@ -8,7 +8,7 @@ use lib.Dec.{eqb, leb, ltb}
 use lib.ListN.{length, getD, take, drop}
 use Rattle.rules.specs.Limits.{maxBlock}
 use Rattle.rules.specs.Lists.{every, pairwise, first, isNone}
-use Rattle.rules.specs.Numbers.{byte, word, dword}
+use Rattle.rules.specs.Numbers.{byte, word, dword, bit, number}
 use Rattle.rules.specs.Refusals.{Refusal, _if_, firstOf}
 use Rattle.rules.specs.declared.Field.{Field}
 use Rattle.rules.specs.declared.FoundAt.{FoundAt}
@@ -147,10 +147,20 @@ registersBad current = not (eqb (length current) 8) || ltb 65535 (getD current d
 abbrev pub andOr : (current and or : ℕ) → ℕ
 andOr current and or = bitOr (bitAnd current and) or
 
--- register k; the six error registers too, "unless AER (bit 3) is held, when they stay"
+-- document 02, f: Device Control's "bits 5 to 7 and 12 to 14", Max_Payload_Size and Max_Read_Request_Size
+abbrev pub sizeBit : ℕ → Bool
+sizeBit i = (leb 5 i && leb i 7) || (leb 12 i && leb i 14)
+
+-- these bits "keep their current value whatever the record says"; the rest of the 32 are those computed
+unfoldable pub sizesKept : (current computed : ℕ) → ℕ
+sizesKept current computed = number 32 (λ i. cond (sizeBit i) (bit current i) (bit computed i))
+
+-- register k, by its pair; Device Control with its sizes kept; the six error registers "unless AER (bit 3) is held, when they stay"
 abbrev pub newValue : (aerHeld : Bool) → List ℕ → Field → (k current : ℕ) → ℕ
 newValue aerHeld l f k current =
-    cond (aerHeld && not (eqb k deviceControl || eqb k linkControl)) current (andOr current (andMask l f k) (orMask l f k))
+    let computed = andOr current (andMask l f k) (orMask l f k) in
+    cond (eqb k deviceControl) (sizesKept current computed)
+    (cond (aerHeld && not (eqb k linkControl)) current computed)
 
 -- the new values of the registers from k on
 abbrev pub newValues : (aerHeld : Bool) → List ℕ → Field → ℕ → List ℕ → List ℕ

@@ -21,7 +21,7 @@ use Rattle.rules.specs.Calls.{Call, on, osc, reset, locate, Result, addressed, 
 use Rattle.rules.specs.History.{reaches, historyFrom}
 use Rattle.rules.specs.Claims.{addressCall, answers, Given, Separate, Buffers, rightCall, answerOf, Undisturbed, atTaking, secondOutcome, takingOutcome, returned, Negotiated}
 use Rattle.rules.specs.BenchSheet.{AllHold, sheet}
-use Rattle.rules.specs.BenchRuns.{starts, run, searches, grants, places}
+use Rattle.rules.specs.BenchRuns.{starts, run, searches, registers, grants, places}
 use Rattle.rules.specs.declared.Table.{Table}
 use Rattle.rules.specs.declared.Bridge.{Bridge}
 use Rattle.rules.specs.declared.FoundAt.{FoundAt}
@@ -230,8 +230,8 @@ pub granted-bits : (b : Bridge) (support requested i : ℕ) → bit (granted b s
 granted-bits = all-claims .granted-bits
 
 -- as many lines as there are, and all hold
-pub lines : AllHold sheet × (AllHold starts × AllHold run × AllHold searches × AllHold grants × AllHold places)
+pub lines : AllHold sheet × (AllHold starts × AllHold run × AllHold searches × AllHold registers × AllHold grants × AllHold places)
 lines = (all-claims .bench-sheet, all-claims .example-runs)
 
-pub how-many : (length sheet ≡ 12) × (length starts ≡ 28) × (length run ≡ 1) × (length searches ≡ 16) × (length grants ≡ 5) × (length places ≡ 13)
-how-many = (refl, refl, refl, refl, refl, refl)
+pub how-many : (length sheet ≡ 13) × (length starts ≡ 28) × (length run ≡ 1) × (length searches ≡ 16) × (length registers ≡ 5) × (length grants ≡ 5) × (length places ≡ 13)
+how-many = (refl, refl, refl, refl, refl, refl, refl)

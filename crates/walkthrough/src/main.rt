@@ -14,12 +14,12 @@ const BASE: u64 = 0xe000_0000;
 // Control bits 0 to 4; as a support DWORD, every known bit.
 const ALL: u32 = 0x1f;
 
-// The current value of every register, and the masks of the type 2 record.
-const CURRENT: u32 = 0x2110;
+// The current value of every register, and the masks of the type 2 record, which asks for other payload sizes.
+const CURRENT: u32 = 0x2810;
 
-const AND: u32 = 0xffff_fff0;
+const AND: u32 = 0x5020;
 
-const OR: u32 = 0x6;
+const OR: u32 = 0x5020;
 
 // A bit set or a register.
 fn bits(before: &[u8], n: u32, width: usize) {
@@ -230,7 +230,7 @@ fn record<'a>(words: &[u8], slot: &'a [u8], block: &'a [u8], record_type: u32) {
     end();
 }
 
-// Register values by a type 2 record in the bridge's block; the slot has no block. Device Control is register 4, Uncorrectable Error Mask register 0.
+// Register values by a type 2 record in the bridge's block; the slot has no block. Device Control is register 4, Link Control 5, Uncorrectable Error Mask 0.
 fn values(words: &[u8], t: Table, s: SessionNumber, n: BridgeNumber)
     requires { ⌜ Sound t ⌝ }
 {
@@ -246,6 +246,8 @@ fn values(words: &[u8], t: Table, s: SessionNumber, n: BridgeNumber)
     if v.number == 0 {
         bits(b"; Device Control ", current[4], 1);
         bits(b" to ", new[4], 1);
+        bits(b", Link Control ", current[5], 1);
+        bits(b" to ", new[5], 1);
         bits(b", Uncorrectable Error Mask ", current[0], 1);
         bits(b" to ", new[0], 1);
     }
@@ -371,7 +373,7 @@ fn class_lets_go(t: Table)
     let class = SessionNumber(1);
     let own = BridgeNumber(0);
     values(
-        b"The class asks for the register values of its own card; AER is held, so the error registers stay.",
+        b"The class asks for the register values of its own card; its payload sizes stay, and, since AER is held, the error registers.",
         t,
         class,
         own,
