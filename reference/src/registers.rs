@@ -12,6 +12,9 @@ use crate::refusal::Refusal;
 const REGISTERS: usize = 8;
 /// Device Control and Link Control, the 16-bit registers; the other six are the error registers.
 const CONTROL: Range<usize> = 4..6;
+const DEVICE_CONTROL: usize = 4;
+/// Bits 5 to 7 and 12 to 14 of Device Control, which are left to the driver.
+const LEFT_TO_DRIVER: u32 = 0b111 << 5 | 0b111 << 12;
 
 impl Bridge {
     /// The new register values, or refusal 11, 10, 8 or 9.
@@ -36,6 +39,8 @@ impl Bridge {
         for (value, [and_mask, or_mask]) in masked.iter_mut().zip(pairs) {
             *value = (*value & u32::from_le_bytes(*and_mask)) | u32::from_le_bytes(*or_mask);
         }
+        let sizes = current[DEVICE_CONTROL] & LEFT_TO_DRIVER;
+        masked[DEVICE_CONTROL] = masked[DEVICE_CONTROL] & !LEFT_TO_DRIVER | sizes;
         if held & AER == 0 {
             return Ok(masked);
         }

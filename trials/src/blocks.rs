@@ -9,7 +9,8 @@ pub const MOST_BYTES: usize = 4096;
 /// The greatest value of each number after the revision, by record type.
 const LIMITS: [&[u32]; 3] = [&[255, 255, 1, 1], &[3, 7, 7], &REGISTER_LIMITS];
 const ANY: u32 = u32::MAX;
-const REGISTER_LIMITS: [u32; 16] = [
+/// Those of the registers' AND and OR masks.
+pub const REGISTER_LIMITS: [u32; 16] = [
     ANY, ANY, ANY, ANY, ANY, ANY, ANY, ANY, 0xFFFF, 0xFFFF, 0xFFFF, 0xFFFF, ANY, ANY, ANY, ANY,
 ];
 

@@ -2,7 +2,7 @@
 
 use std::fmt;
 
-use crate::call::{Call, KINDS, LISTED, Osc};
+use crate::call::{Call, KINDS, LISTED, Osc, RegisterValues};
 use crate::comparison::Agreed;
 use crate::given::Handed;
 
@@ -12,7 +12,7 @@ pub const FULL_RUN: u64 = 200_000;
 pub const LEAST: u64 = 1_000;
 
 /// What is counted beside the numbers.
-const ANSWERS: [&str; 11] = [
+const ANSWERS: [&str; 12] = [
     "_OSC status 0x00",
     "_OSC status 0x02",
     "_OSC status 0x04",
@@ -24,6 +24,7 @@ const ANSWERS: [&str; 11] = [
     "record in the bridge's block",
     "register values with AER held",
     "register values without AER",
+    "payload sizes kept",
 ];
 const AER: u32 = 1 << 3;
 
@@ -55,6 +56,7 @@ impl Counts {
                 let report = agreed.reports[usize::from(call.bridge)].handed;
                 let aer = matches!(report, Handed::Holding { held, .. } if held & AER != 0);
                 self.answers[if aer { 9 } else { 10 }] += 1;
+                self.answers[11] += u64::from(asks_for_other_sizes(call));
             }
             _ => {}
         }
@@ -90,6 +92,15 @@ impl Counts {
         }
         rare
     }
+}
+
+/// Whether the pair for Device Control, the fifth of the record, would change bits 5 to 7 or 12 to 14.
+fn asks_for_other_sizes(call: &RegisterValues) -> bool {
+    let record = reference::find_record(call.slot.lent(), call.bridge_block.lent(), 2);
+    let (numbers, _) = record.expect("the call was done")[3..].as_chunks();
+    let [and_mask, or_mask] = [9, 10].map(|index| u32::from_le_bytes(numbers[index]));
+    let current = call.current.lent()[4];
+    ((current & and_mask | or_mask) ^ current) & 0x70E0 != 0
 }
 
 impl fmt::Display for Counts {

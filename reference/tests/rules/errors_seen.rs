@@ -56,7 +56,10 @@ fn and_comes_before_or() {
     let table = holding(0x1F, 0x11);
     let block = express(0x00F0, 0x0F0F);
     let values = table.register_values(OWNER, BRIDGE, &block, &[], &[0x1234; 8]);
-    assert_eq!(values, Ok([0x0F3F; 8]));
+    let mut expect = [0x0F3F; 8];
+    // Device Control keeps bits 5 to 7 and 12 to 14.
+    expect[4] = 0x1F3F;
+    assert_eq!(values, Ok(expect));
 }
 
 #[test]

@@ -189,7 +189,7 @@ fn registers_without_aer() {
         0x2300_6702,
         0x3050_7094,
         0x0507_090B,
-        0x5610,
+        0x5670,
         0x60A0,
         0x009A_BC40,
         0x09A0_0DE0,
@@ -202,9 +202,38 @@ fn registers_without_aer() {
 fn registers_with_aer_held() {
     let table = holding(0x1F, 0x19);
     let mut expect = CURRENT;
-    expect[4..6].copy_from_slice(&[0x5610, 0x60A0]);
+    expect[4..6].copy_from_slice(&[0x5670, 0x60A0]);
     let values = table.register_values(OWNER, BRIDGE, &[], &masks(), &CURRENT);
     assert_eq!(values, Ok(expect));
+}
+
+/// The new values of registers that all have this one, by the same pair for each, without AER.
+fn every(value: u32, and_mask: u32, or_mask: u32) -> [u32; 8] {
+    let table = holding(0x1F, 0x11);
+    let block = express(and_mask, or_mask);
+    let values = table.register_values(OWNER, BRIDGE, &block, &[], &[value; 8]);
+    values.unwrap()
+}
+
+#[test]
+fn payload_sizes_keep_their_value_in_device_control() {
+    let [a, b, c, d, device_control, link_control, e, f] = every(0x2810, 0x5020, 0x5020);
+    assert_eq!(device_control, 0x2000);
+    assert_eq!([a, b, c, d, link_control, e, f], [0x5020; 7]);
+    assert_eq!(every(0, 0xFFFF, 0xFFFF)[4..6], [0x8F1F, 0xFFFF]);
+    assert_eq!(every(0x70E0, 0, 0)[4..6], [0x70E0, 0]);
+}
+
+#[test]
+fn each_bit_of_device_control() {
+    for bit in 0..16 {
+        let stays = matches!(bit, 5..=7 | 12..=14);
+        let one = 1 << bit;
+        let kept = if stays { one } else { 0 };
+        assert_eq!(every(one, 0, 0)[4], kept, "cleared {bit}");
+        assert_eq!(every(0, one, one)[4], one - kept, "set {bit}");
+        assert_eq!(every(one, one, 0)[4], one, "left {bit}");
+    }
 }
 
 #[test]

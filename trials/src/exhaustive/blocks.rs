@@ -9,11 +9,11 @@ use crate::requests;
 use crate::row::Row;
 use crate::service::Pair;
 
-const OWNER: u8 = 7;
+pub const OWNER: u8 = 7;
 /// Bridge 0 takes hot plug without AER, bridge 1 with it.
-const CONTROLS: [u32; 2] = [0x11, 0x19];
+pub const CONTROLS: [u32; 2] = [0x11, 0x19];
 
-fn started(make: fn() -> Pair) -> Result<Bench, String> {
+pub fn started(make: fn() -> Pair) -> Result<Bench, String> {
     let entry = Entry {
         base: 0,
         segment: 0,

@@ -3,6 +3,7 @@
 mod blocks;
 pub mod granting;
 mod places;
+pub mod registers;
 mod starts;
 pub mod sums;
 
@@ -16,7 +17,7 @@ use crate::service::Pair;
 /// The name of each comparison, and the comparison: the count of its calls, or a difference in words.
 type Comparison = (&'static str, fn(fn() -> Pair) -> Result<u64, String>);
 
-const COMPARISONS: [Comparison; 13] = [
+const COMPARISONS: [Comparison; 14] = [
     (
         "every offset with every width, and numbers beyond",
         places::offsets_and_widths,
@@ -65,6 +66,10 @@ const COMPARISONS: [Comparison; 13] = [
     (
         "every record type of a byte, and numbers beyond",
         blocks::types,
+    ),
+    (
+        "every bit of every register, set or not in its value and in each mask, among 0s and among 1s",
+        registers::bits,
     ),
 ];
 

@@ -6,6 +6,7 @@ use trials::mcfg;
 use trials::requests::{PRINTED_UUID, UUID};
 use trials::service::Service;
 
+use crate::sizes::{DEVICE_CONTROL, SIZES, kept};
 use crate::wrong::{Wrong, dword, found, found_exhaustively, judged, pair, short_names};
 
 const AER: u32 = 1 << 3;
@@ -135,7 +136,9 @@ fn ors_before_it_ands(wrong: &mut Wrong, call: &mut Call) -> Given {
     for (index, value) in values.iter_mut().enumerate() {
         if !aer || matches!(index, 4 | 5) {
             let [and, or] = [0, 1].map(|mask| dword(&record[7..], 2 * index + mask));
-            *value = (asked.current.lent()[index] | or) & and;
+            let current = asked.current.lent()[index];
+            let stay = if index == DEVICE_CONTROL { SIZES } else { 0 };
+            *value = kept(stay, current, (current | or) & and);
         }
     }
     given
