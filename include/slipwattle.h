@@ -26,9 +26,9 @@ extern "C" {
 #endif
 
 #define SLIPWATTLE_VERSION_MAJOR 0
-#define SLIPWATTLE_VERSION_MINOR 4
+#define SLIPWATTLE_VERSION_MINOR 5
 #define SLIPWATTLE_VERSION_PATCH 0
-#define SLIPWATTLE_VERSION "0.4.0"
+#define SLIPWATTLE_VERSION "0.5.0"
 
 /* The most rows of a starting list (a table has a bridge for each), and the registers of a type 2 record. */
 #define SLIPWATTLE_MAX_ROWS 64
@@ -251,7 +251,8 @@ typedef struct {
  * current: the 8 current values in the order of the record's pairs: Uncorrectable Error Mask and Severity, Correctable Error Mask, Advanced Error
  *    Capabilities and Control, Device Control, Link Control, Secondary Uncorrectable Error Severity and Mask. current_length counts
  *    numbers, not bytes.
- * New = (current AND mask) OR mask; where AER (control bit 3) is held all but Device Control and Link Control stay. Nothing is
+ * New = (current AND mask) OR mask. In Device Control bits 5 to 7 and 12 to 14 (Max_Payload_Size, Max_Read_Request_Size) keep their
+ * current value whatever the record says. Where AER (control bit 3) is held all but Device Control and Link Control stay. Nothing is
  * written anywhere; the table stays as it is. */
 slipwattle_values slipwattle_register_values(const slipwattle_table *table, slipwattle_session session, slipwattle_bridge bridge,
                                              const uint8_t *slot, size_t slot_length, const uint8_t *bridge_block,

@@ -229,8 +229,9 @@ impl Table {
     /// Mask and Severity, Correctable Error Mask, Advanced Error Capabilities and Control, Device Control, Link Control, Secondary
     /// Uncorrectable Error Severity and Mask.
     ///
-    /// A new value is (current AND mask) OR mask. Where the bridge holds [`CONTROL_AER`](crate::osc::CONTROL_AER) all but Device Control
-    /// and Link Control stay.
+    /// A new value is (current AND mask) OR mask. In Device Control bits 5 to 7 and 12 to 14 (Max_Payload_Size, Max_Read_Request_Size)
+    /// keep their current value whatever the record says. Where the bridge holds [`CONTROL_AER`](crate::osc::CONTROL_AER) all but Device
+    /// Control and Link Control stay.
     ///
     /// # Errors
     ///
@@ -242,13 +243,14 @@ impl Table {
     /// let take = [0, 0, CONTROL_EXPRESS_HOT_PLUG | CONTROL_EXPRESS_CAPABILITY].map(u32::to_le_bytes);
     /// let (capabilities, answer) = (take.as_flattened(), &mut [0; 12]);
     /// table.osc(session, bridge, OSC_REVISION, OSC_COUNT, &OSC_UUID, capabilities, answer)?;
-    /// // A type 2 record whose pair for Device Control is AND 0xFFF0, OR 6.
+    /// // A type 2 record whose pairs for Device Control and Link Control are AND 0x5020, OR 0x5020.
     /// let mut block = [0; 71];
     /// block[..4].copy_from_slice(&[2, 68, 0, 1]);
-    /// block[39..47].copy_from_slice(&[0xF0, 0xFF, 0, 0, 6, 0, 0, 0]);
-    /// let current = [0, 0, 0, 0, 0x2110, 0, 0, 0];
+    /// block[39..47].copy_from_slice(&[0x20, 0x50, 0, 0, 0x20, 0x50, 0, 0]);
+    /// block.copy_within(39..47, 47);
+    /// let current = [0, 0, 0, 0, 0x2810, 0x2810, 0, 0];
     /// let new = table.register_values(session, bridge, &[], &block, &current)?;
-    /// assert_eq!(new, [0, 0, 0, 0, 0x2116, 0, 0, 0]);
+    /// assert_eq!(new, [0, 0, 0, 0, 0x2000, 0x5020, 0, 0]);
     /// # Ok::<(), Refusal>(())
     /// ```
     pub fn register_values(

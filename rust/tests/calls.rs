@@ -71,8 +71,13 @@ fn taken(control: u32) -> Table {
 
 /// A type 2 record whose pairs are AND 0xFFF0, OR 6.
 fn type_2() -> Vec<u8> {
+    same_pairs([0xFFF0, 6])
+}
+
+/// A type 2 record with the same AND and OR mask for every register.
+fn same_pairs(masks: [u32; 2]) -> Vec<u8> {
     let mut record = vec![2, 68, 0, 1, 0, 0, 0];
-    record.extend([0xF0, 0xFF, 0, 0, 6, 0, 0, 0].repeat(8));
+    record.extend(masks.map(u32::to_le_bytes).as_flattened().repeat(8));
     record
 }
 
@@ -221,6 +226,25 @@ fn register_values_keep_the_error_registers_where_aer_is_held() {
     let two = [0x101, 0x102, 0x103, 0x104, 0x2116, 0x106, 0x107, 0x108];
     assert_eq!(values(HOT_PLUG), Ok(all));
     assert_eq!(values(HOT_PLUG | CONTROL_AER), Ok(two));
+}
+
+#[test]
+fn register_values_keep_the_payload_sizes_of_device_control() {
+    let values = |value: u32, masks: [u32; 2]| {
+        let table = taken(HOT_PLUG);
+        table.register_values(CLASS, CLASS_BRIDGE, &same_pairs(masks), &[], &[value; 8])
+    };
+    let but_device_control = |others, device_control| {
+        let mut expect = [others; 8];
+        expect[4] = device_control;
+        Ok(expect)
+    };
+    let worked = values(0x2810, [0x5020, 0x5020]);
+    assert_eq!(worked, but_device_control(0x5020, 0x2000));
+    let set = values(0, [0xFFFF, 0xFFFF]);
+    assert_eq!(set, but_device_control(0xFFFF, 0x8F1F));
+    let cleared = values(0xFFFF, [0, 0]);
+    assert_eq!(cleared, but_device_control(0, 0x70E0));
 }
 
 /// A call for each refusal, in the order of their numbers.

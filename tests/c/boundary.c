@@ -392,18 +392,24 @@ static void places_are_refused_in_order(const slipwattle_table *t) {
 static const uint8_t EXAMPLE[42] = {0, 0x14, 0, 1, 0, 0, 0, 8, 0, 0, 0, 0x40, 0, 0, 0, 1, 0, 0, 0, 0, 0,
                                     0, 0, 1, 0x10, 0, 1, 0, 0, 0, 3, 0, 0, 0, 4, 0, 0, 0, 7, 0, 0, 0};
 
-/* A type 2 record whose pairs are AND 0xFFF0, OR 6. */
-static void write_settings(uint8_t settings[71]) {
+/* A type 2 record with the same pair for every register. */
+static void write_pairs(uint8_t settings[71], uint16_t and_mask, uint16_t or_mask) {
     size_t k;
     memset(settings, 0, 71);
     settings[0] = 2;
     settings[1] = 68;
     settings[3] = 1;
     for (k = 0; k < SLIPWATTLE_REGISTERS; k++) {
-        settings[7 + 8 * k] = 0xF0;
-        settings[8 + 8 * k] = 0xFF;
-        settings[11 + 8 * k] = 6;
+        settings[7 + 8 * k] = (uint8_t)(and_mask % 256);
+        settings[8 + 8 * k] = (uint8_t)(and_mask / 256);
+        settings[11 + 8 * k] = (uint8_t)(or_mask % 256);
+        settings[12 + 8 * k] = (uint8_t)(or_mask / 256);
     }
+}
+
+/* AND 0xFFF0, OR 6. */
+static void write_settings(uint8_t settings[71]) {
+    write_pairs(settings, 0xFFF0, 6);
 }
 
 static void finds_records(void) {
@@ -479,6 +485,32 @@ static void computes_register_values(slipwattle_table *t) {
     CHECK(v.number == 0 && v.values[0] == 6 && v.values[4] == 0xFFF6 && v.values[7] == 6);
 }
 
+/* Bits 5 to 7 and 12 to 14 of Device Control stay; bridge 0 holds no AER. */
+static void keeps_payload_sizes(const slipwattle_table *t) {
+    static const uint16_t lines[4][5] = {
+        /* current, AND, OR, Device Control, the other seven */
+        {0x2810, 0x5020, 0x5020, 0x2000, 0x5020},
+        {0, 0xFFFF, 0xFFFF, 0x8F1F, 0xFFFF},
+        {0x70E0, 0, 0, 0x70E0, 0},
+        {0xFFFF, 0, 0, 0x70E0, 0},
+    };
+    uint8_t settings[71];
+    uint32_t current[SLIPWATTLE_REGISTERS];
+    slipwattle_values v;
+    size_t j, k;
+    for (j = 0; j < 4; j++) {
+        write_pairs(settings, lines[j][1], lines[j][2]);
+        for (k = 0; k < SLIPWATTLE_REGISTERS; k++) {
+            current[k] = lines[j][0];
+        }
+        v = slipwattle_register_values(t, session(1), bridge(0), settings, 71, NULL, 0, current, 8);
+        CHECK(v.number == 0);
+        for (k = 0; k < SLIPWATTLE_REGISTERS; k++) {
+            CHECK(v.values[k] == lines[j][k == 4 ? 3 : 4]);
+        }
+    }
+}
+
 static void has_a_text_for_each_number(void) {
     const char *none = slipwattle_refusal_text(12);
     int n, other;
@@ -514,6 +546,7 @@ int main(void) {
     finds_records();
     finds_records_in_4096_bytes();
     computes_register_values(&s.table);
+    keeps_payload_sizes(&s.table);
     has_a_text_for_each_number();
     CHECK(slipwattle_reset(&s.table, session(1), bridge(0)) == 0);
     r = slipwattle_report(&s.table, session(1), bridge(0));
