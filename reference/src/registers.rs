@@ -11,7 +11,7 @@ use crate::refusal::Refusal;
 /// The registers of the PCI Express setting record.
 const REGISTERS: usize = 8;
 /// Device Control and Link Control, the 16-bit registers; the other six are the error registers.
-const CONTROL: Range<usize> = 4..6;
+const CONTROL: Range<usize> = DEVICE_CONTROL..6;
 const DEVICE_CONTROL: usize = 4;
 /// Bits 5 to 7 and 12 to 14 of Device Control, which are left to the driver.
 const LEFT_TO_DRIVER: u32 = 0b111 << 5 | 0b111 << 12;
@@ -35,17 +35,16 @@ impl Bridge {
         }
         let record = search(slot, bridge_block, PCI_EXPRESS.into())?;
         let (pairs, _) = record.numbers.as_chunks::<2>();
-        let mut masked = *current;
-        for (value, [and_mask, or_mask]) in masked.iter_mut().zip(pairs) {
+        let mut values = *current;
+        for (value, [and_mask, or_mask]) in values.iter_mut().zip(pairs) {
             *value = (*value & u32::from_le_bytes(*and_mask)) | u32::from_le_bytes(*or_mask);
         }
-        let sizes = current[DEVICE_CONTROL] & LEFT_TO_DRIVER;
-        masked[DEVICE_CONTROL] = masked[DEVICE_CONTROL] & !LEFT_TO_DRIVER | sizes;
-        if held & AER == 0 {
-            return Ok(masked);
+        if held & AER != 0 {
+            values[..CONTROL.start].copy_from_slice(&current[..CONTROL.start]);
+            values[CONTROL.end..].copy_from_slice(&current[CONTROL.end..]);
         }
-        let mut values = *current;
-        values[CONTROL].copy_from_slice(&masked[CONTROL]);
+        values[DEVICE_CONTROL] &= !LEFT_TO_DRIVER;
+        values[DEVICE_CONTROL] |= current[DEVICE_CONTROL] & LEFT_TO_DRIVER;
         Ok(values)
     }
 }
