@@ -9,6 +9,9 @@ pub const MOST_BYTES: usize = 4096;
 /// The greatest value of each number after the revision, by record type.
 const LIMITS: [&[u32]; 3] = [&[255, 255, 1, 1], &[3, 7, 7], &REGISTER_LIMITS];
 const ANY: u32 = u32::MAX;
+/// Bits 5 to 7 and 12 to 14 of Device Control.
+pub const PAYLOAD_SIZES: u32 = 0x70E0;
+pub const DEVICE_CONTROL: usize = 4;
 /// Those of the registers' AND and OR masks.
 pub const REGISTER_LIMITS: [u32; 16] = [
     ANY, ANY, ANY, ANY, ANY, ANY, ANY, ANY, 0xFFFF, 0xFFFF, 0xFFFF, 0xFFFF, ANY, ANY, ANY, ANY,
@@ -63,6 +66,13 @@ fn numbers_within(random: &mut Random, record_type: usize) -> Vec<u32> {
 pub fn record(random: &mut Random, record_type: u8) -> Vec<u8> {
     let numbers = numbers_within(random, usize::from(record_type));
     numbers_field(record_type, 1, &numbers)
+}
+
+/// The AND and the OR mask of a register in the type 2 record of blocks that have one.
+pub fn masks(slot: &[u8], bridge_block: &[u8], register: usize) -> [u32; 2] {
+    let record = reference::find_record(slot, bridge_block, 2).expect("the blocks have a record");
+    let (numbers, _) = record[3..].as_chunks();
+    [1, 2].map(|mask| u32::from_le_bytes(numbers[2 * register + mask]))
 }
 
 /// A field that a search passes over: a tag above 2, or another revision.

@@ -2,6 +2,7 @@
 
 use std::fmt;
 
+use crate::blocks::{self, DEVICE_CONTROL, PAYLOAD_SIZES};
 use crate::call::{Call, KINDS, LISTED, Osc, RegisterValues};
 use crate::comparison::Agreed;
 use crate::given::Handed;
@@ -94,13 +95,12 @@ impl Counts {
     }
 }
 
-/// Whether the pair for Device Control, the fifth of the record, would change bits 5 to 7 or 12 to 14.
+/// Whether the record's pair would change the payload sizes of Device Control.
 fn asks_for_other_sizes(call: &RegisterValues) -> bool {
-    let record = reference::find_record(call.slot.lent(), call.bridge_block.lent(), 2);
-    let (numbers, _) = record.expect("the call was done")[3..].as_chunks();
-    let [and_mask, or_mask] = [9, 10].map(|index| u32::from_le_bytes(numbers[index]));
-    let current = call.current.lent()[4];
-    ((current & and_mask | or_mask) ^ current) & 0x70E0 != 0
+    let (slot, bridge_block) = (call.slot.lent(), call.bridge_block.lent());
+    let [and_mask, or_mask] = blocks::masks(slot, bridge_block, DEVICE_CONTROL);
+    let current = call.current.lent()[DEVICE_CONTROL];
+    (((current & and_mask) | or_mask) ^ current) & PAYLOAD_SIZES != 0
 }
 
 impl fmt::Display for Counts {

@@ -1,5 +1,5 @@
 // The bench sheet of document 01, line by line in its order, through the calls; its fourth line as document 02, b, has it, its numbers of rows as e has them, and at the end as many
-// entries and the register that f works out. P permitted, H held, R requested, G granted.
+// entries and the register value that f works out. P permitted, H held, R requested, G granted.
 use print::bytes;
 use print::decimal;
 use print::end;
@@ -138,7 +138,7 @@ fn entries(count: usize)
     sound(BASE, 255, count);
 }
 
-// Register k of a card whose registers all have this value, by a record with the same pair for each, where bits 0 and 4 are held and AER is not.
+// Register k of a card whose registers all have this value, by the record that fixtures::settings makes, where bits 0 and 4 are held and AER is not.
 fn register(words: &[u8], k: usize, value: u32, and: u32, or: u32)
     requires { ⌜ k < 8 ⌝ }
 {

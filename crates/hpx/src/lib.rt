@@ -64,7 +64,7 @@ pub fn registers_bad(current: &[u32]) -> bool
     (65535 < current[4]) | (65535 < current[5])
 }
 
-// Bits 5 to 7 and 12 to 14 keep their current value, the rest are those computed.
+// Device Control: bits 5 to 7 and 12 to 14 keep their current value, the rest are those computed.
 fn sizes_kept(current: u32, computed: u32) -> u32
     ensures { λ r. ⌜ r ≡ sizesKept current computed ⌝ }
 {

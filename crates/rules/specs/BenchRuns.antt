@@ -1,4 +1,4 @@
--- Example runs: starts, a run of two sessions on one table, record searches, register values, grants and places, with all that each gives.
+-- Example runs: starts, a run of two sessions on one table, record searches, register values, grants and places.
 use Prim.Native.Nat.{ℕ, zero, suc}
 use mathlib.Core.Bool.{true, false}
 use mathlib.Core.List.{List, [], _∷_, _++_}
@@ -7,8 +7,8 @@ use Rattle.rules.specs.Place.{placeBad, busOutside}
 use Rattle.rules.specs.Start.{StartInput, express, conventional, startNumber, bridgeOf, startTable}
 use Rattle.rules.specs.Osc.{uuidBytes}
 use Rattle.rules.specs.Records.{findRecord}
-use Rattle.rules.specs.Calls.{osc, reset, report, address, registerValues, Call, on, locate, nothing, reported, addressed, located, values, Outcome, outcome, outcomes}
-use Rattle.rules.specs.BenchSheet.{Line, _gives_, AllHold, bridgeWith, outcomeOn, oscOn, samePairs}
+use Rattle.rules.specs.Calls.{osc, reset, report, address, registerValues, Call, on, locate, nothing, reported, addressed, located, values, outcome, outcomes}
+use Rattle.rules.specs.BenchSheet.{Line, _gives_, AllHold, oscOn, registersOn, newRegisters}
 use Rattle.rules.specs.declared.Bridge.{Bridge}
 use Rattle.rules.specs.declared.BridgeNumber.{BridgeNumber}
 use Rattle.rules.specs.declared.BridgeRow.{BridgeRow}
@@ -234,25 +234,14 @@ searches =
     ∷ (findRecord [] (0x03 ∷ 0xFE ∷ 0x0F ∷ replicate 4094 0) 0 gives found 8 0 0)
     ∷ []
 
--- ---- register values: a card of bridge 0 whose registers all have this value, by a record with the same pair for every register
+-- ---- register values beyond the sheet, document 02, f: AER held; every bit set by the record; every bit cleared by it
 
-abbrev pub registersOn : (held current and or : ℕ) → Outcome
-registersOn held current and or = outcomeOn (bridgeWith 0x1F held) (registerValues [] (samePairs and or) (replicate 8 current))
-
--- the new values, Device Control the fifth, and what was lent as it was
-abbrev pub newRegisters : (current and or : ℕ) → List ℕ → Outcome
-newRegisters current and or new = outcome 0 (values new) ([] ∷ samePairs and or ∷ replicate 8 current ∷ [])
-
--- document 02, f: its worked value; the same where AER is held; all bits set by the record; bits 5 to 7 and 12 to 14, and all bits, cleared by it
 abbrev pub registers : List Line
 registers =
-    (registersOn 0x11 0x2810 0x5020 0x5020
-    gives newRegisters 0x2810 0x5020 0x5020 (0x5020 ∷ 0x5020 ∷ 0x5020 ∷ 0x5020 ∷ 0x2000 ∷ 0x5020 ∷ 0x5020 ∷ 0x5020 ∷ []))
-    ∷ (registersOn 0x19 0x2810 0x5020 0x5020
+    (registersOn 0x19 0x2810 0x5020 0x5020
     gives newRegisters 0x2810 0x5020 0x5020 (0x2810 ∷ 0x2810 ∷ 0x2810 ∷ 0x2810 ∷ 0x2000 ∷ 0x5020 ∷ 0x2810 ∷ 0x2810 ∷ []))
     ∷ (registersOn 0x11 0 0xFFFF 0xFFFF
     gives newRegisters 0 0xFFFF 0xFFFF (0xFFFF ∷ 0xFFFF ∷ 0xFFFF ∷ 0xFFFF ∷ 0x8F1F ∷ 0xFFFF ∷ 0xFFFF ∷ 0xFFFF ∷ []))
-    ∷ (registersOn 0x11 0x70E0 0 0 gives newRegisters 0x70E0 0 0 (0 ∷ 0 ∷ 0 ∷ 0 ∷ 0x70E0 ∷ 0 ∷ 0 ∷ 0 ∷ []))
     ∷ (registersOn 0x11 0xFFFF 0 0 gives newRegisters 0xFFFF 0 0 (0 ∷ 0 ∷ 0 ∷ 0 ∷ 0x70E0 ∷ 0 ∷ 0 ∷ 0 ∷ []))
     ∷ []
 

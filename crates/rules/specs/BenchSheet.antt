@@ -6,8 +6,8 @@ use mathlib.Core.List.{List, [], _∷_, _++_}
 use lib.ListN.{replicate}
 use Rattle.rules.specs.Numbers.{le32}
 use Rattle.rules.specs.Mcfg.{entrySound}
-use Rattle.rules.specs.Records.{fieldAt, deviceControl, blockSound, andOr, newValue}
-use Rattle.rules.specs.Calls.{Operation, osc, address, addressed, Outcome, outcome, numberAt, outcomeBy, bridgeBy}
+use Rattle.rules.specs.Records.{blockSound, andOr}
+use Rattle.rules.specs.Calls.{Operation, osc, address, registerValues, addressed, values, Outcome, outcome, numberAt, outcomeBy, bridgeBy}
 use Rattle.rules.specs.Claims.{answerOf}
 use Rattle.rules.specs.declared.Bridge.{Bridge}
 
@@ -53,9 +53,13 @@ pairs (suc n) and or = le32 and ++ le32 or ++ pairs n and or
 abbrev pub samePairs : (and or : ℕ) → List ℕ
 samePairs and or = 2 ∷ 68 ∷ 0 ∷ 1 ∷ 0 ∷ 0 ∷ 0 ∷ pairs 8 and or
 
--- the new value of register k by it
-abbrev pub registerOn : (k current and or : ℕ) → ℕ
-registerOn k current and or = newValue false (samePairs and or) (fieldAt (samePairs and or) 0) k current
+-- the register values of a card on it whose registers all have the same value, by that block
+abbrev pub registersOn : (held value and or : ℕ) → Outcome
+registersOn held value and or = outcomeOn (bridgeWith 0x1F held) (registerValues [] (samePairs and or) (replicate 8 value))
+
+-- the eight new values, Device Control the fifth, and what was lent as it was
+abbrev pub newRegisters : (value and or : ℕ) → List ℕ → Outcome
+newRegisters value and or new = outcome 0 (values new) ([] ∷ samePairs and or ∷ replicate 8 value ∷ [])
 
 -- the starred lines, in order; then the value that document 02, f, works out
 abbrev pub sheet : List Line
@@ -91,8 +95,9 @@ sheet =
     ∷ (blockSound (
     0x00 ∷ 0x14 ∷ 0x00 ∷ 1 ∷ 0 ∷ 0 ∷ 0 ∷ 8 ∷ 0 ∷ 0 ∷ 0 ∷ 0x40 ∷ 0 ∷ 0 ∷ 0 ∷ 1 ∷ 0 ∷ 0 ∷ 0 ∷ 0 ∷ 0 ∷ 0 ∷ 0
     ∷ 0x01 ∷ 0x10 ∷ 0x00 ∷ 1 ∷ 0 ∷ 0 ∷ 0 ∷ 3 ∷ 0 ∷ 0 ∷ 0 ∷ 4 ∷ 0 ∷ 0 ∷ 0 ∷ 7 ∷ 0 ∷ 0 ∷ 0 ∷ []) gives true)
-    -- document 02, f: Device Control, current 0x2810, AND 0x5020, OR 0x5020: 0x2000
-    ∷ (registerOn deviceControl 0x2810 0x5020 0x5020 gives 0x2000)
+    -- document 02, f: current 0x2810, AND 0x5020, OR 0x5020: 0x2000 in Device Control, 0x5020 in the others
+    ∷ (registersOn 0x11 0x2810 0x5020 0x5020
+    gives newRegisters 0x2810 0x5020 0x5020 (0x5020 ∷ 0x5020 ∷ 0x5020 ∷ 0x5020 ∷ 0x2000 ∷ 0x5020 ∷ 0x5020 ∷ 0x5020 ∷ []))
     ∷ []
 
 abbrev pub BenchSheet : Type 0

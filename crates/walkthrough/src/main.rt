@@ -373,7 +373,7 @@ fn class_lets_go(t: Table)
     let class = SessionNumber(1);
     let own = BridgeNumber(0);
     values(
-        b"The class asks for the register values of its own card; its payload sizes stay, and, since AER is held, the error registers.",
+        b"The class asks for the register values of its own card; its payload sizes stay; AER is held, so the error registers stay too.",
         t,
         class,
         own,

@@ -1,4 +1,4 @@
-//! Every line of the bench sheet.
+//! Every line of document 01's bench sheet, and the value that document 02, f, works out.
 
 use crate::build::*;
 use reference::{Refusal, find_record, granted};
@@ -74,6 +74,16 @@ fn and_then_or() {
     let block = express(0xFFFF_FFF0, 0x6);
     let values = table.register_values(OWNER, BRIDGE, &block, &[], &[0x2110; 8]);
     assert_eq!(values, Ok([0x2116; 8]));
+}
+
+#[test]
+fn payload_sizes_stay() {
+    let table = holding(0x1F, 0x11);
+    let block = express(0x5020, 0x5020);
+    let values = table.register_values(OWNER, BRIDGE, &block, &[], &[0x2810; 8]);
+    let mut expect = [0x5020; 8];
+    expect[4] = 0x2000;
+    assert_eq!(values, Ok(expect));
 }
 
 #[test]

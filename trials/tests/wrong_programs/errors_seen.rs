@@ -1,12 +1,13 @@
 //! Every line of document 01's "Errors we have seen".
 
+use trials::blocks::{self, DEVICE_CONTROL, PAYLOAD_SIZES};
 use trials::call::{Call, FindRecord, Report};
 use trials::given::{Given, Handed};
 use trials::mcfg;
 use trials::requests::{PRINTED_UUID, UUID};
 use trials::service::Service;
 
-use crate::sizes::{DEVICE_CONTROL, SIZES, kept};
+use crate::sizes::kept;
 use crate::wrong::{Wrong, dword, found, found_exhaustively, judged, pair, short_names};
 
 const AER: u32 = 1 << 3;
@@ -131,13 +132,14 @@ fn ors_before_it_ands(wrong: &mut Wrong, call: &mut Call) -> Given {
     let (session, bridge) = (asked.session, asked.bridge);
     let report = wrong.reference.call(&mut Report { session, bridge }.into());
     let aer = matches!(report.handed, Handed::Holding { held, .. } if held & AER != 0);
-    let record = reference::find_record(asked.slot.lent(), asked.bridge_block.lent(), 2)
-        .expect("the call was done");
     for (index, value) in values.iter_mut().enumerate() {
         if !aer || matches!(index, 4 | 5) {
-            let [and, or] = [0, 1].map(|mask| dword(&record[7..], 2 * index + mask));
+            let [and, or] = blocks::masks(asked.slot.lent(), asked.bridge_block.lent(), index);
             let current = asked.current.lent()[index];
-            let stay = if index == DEVICE_CONTROL { SIZES } else { 0 };
+            let stay = match index {
+                DEVICE_CONTROL => PAYLOAD_SIZES,
+                _ => 0,
+            };
             *value = kept(stay, current, (current | or) & and);
         }
     }

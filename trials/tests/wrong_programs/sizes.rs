@@ -1,15 +1,14 @@
 //! The payload sizes of Device Control, bits 5 to 7 and 12 to 14, kept wrongly (document 02, f).
 
+use trials::blocks::{self, DEVICE_CONTROL, PAYLOAD_SIZES};
 use trials::call::Call;
 use trials::exhaustive::registers;
 use trials::given::{Given, Handed};
 use trials::service::{Pair, Service};
 
-use crate::wrong::{Wrong, dword, found, pair, short_names};
+use crate::wrong::{Wrong, found, pair, short_names};
 
-pub const DEVICE_CONTROL: usize = 4;
 const LINK_CONTROL: usize = 5;
-pub const SIZES: u32 = 0x70E0;
 
 /// What was computed, with these bits as they were.
 pub fn kept(bits: u32, current: u32, computed: u32) -> u32 {
@@ -27,16 +26,15 @@ fn revalued(
     if let (0, Call::RegisterValues(asked), Handed::Values(values)) =
         (given.number, call, &mut given.handed)
     {
-        let record = reference::find_record(asked.slot.lent(), asked.bridge_block.lent(), 2)
-            .expect("the call was done");
-        let [and_mask, or_mask] = [0, 1].map(|mask| dword(&record[7..], 2 * register + mask));
+        let (slot, bridge_block) = (asked.slot.lent(), asked.bridge_block.lent());
+        let [and_mask, or_mask] = blocks::masks(slot, bridge_block, register);
         values[register] = rule(asked.current.lent()[register], and_mask, or_mask);
     }
     given
 }
 
 fn keeps_sizes(current: u32, and_mask: u32, or_mask: u32) -> u32 {
-    kept(SIZES, current, (current & and_mask) | or_mask)
+    kept(PAYLOAD_SIZES, current, (current & and_mask) | or_mask)
 }
 
 #[test]
@@ -62,7 +60,7 @@ fn sizes_changed_by_the_record() {
 }
 
 fn keeps_before_the_or(current: u32, and_mask: u32, or_mask: u32) -> u32 {
-    kept(SIZES, current, current & and_mask) | or_mask
+    kept(PAYLOAD_SIZES, current, current & and_mask) | or_mask
 }
 
 #[test]
@@ -78,7 +76,7 @@ fn sizes_kept_in_link_control_too() {
 fn one_bit_wrong<const BIT: u32>() -> Pair {
     pair(|wrong, call| {
         revalued(wrong, call, DEVICE_CONTROL, |current, and_mask, or_mask| {
-            let bits = SIZES ^ (1 << BIT);
+            let bits = PAYLOAD_SIZES ^ (1 << BIT);
             kept(bits, current, (current & and_mask) | or_mask)
         })
     })
