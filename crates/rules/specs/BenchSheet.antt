@@ -53,7 +53,7 @@ pairs (suc n) and or = le32 and ++ le32 or ++ pairs n and or
 abbrev pub samePairs : (and or : ℕ) → List ℕ
 samePairs and or = 2 ∷ 68 ∷ 0 ∷ 1 ∷ 0 ∷ 0 ∷ 0 ∷ pairs 8 and or
 
--- the register values of a card on it whose registers all have the same value, by that block
+-- the register values of a card on the bridge, whose registers all have the same value, by that block
 abbrev pub registersOn : (held value and or : ℕ) → Outcome
 registersOn held value and or = outcomeOn (bridgeWith 0x1F held) (registerValues [] (samePairs and or) (replicate 8 value))
 
