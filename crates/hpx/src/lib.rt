@@ -6,7 +6,8 @@ ghost use mathlib.Core.Path.{_≡_};
 ghost use mathlib.Core.Bool.{false};
 ghost use Prim.Native.Nat.{_+_, _<_, _≤_};
 ghost use lib.ListN.{length, getD};
-ghost use Rattle.rules.specs.Records.{fieldAt, deciding, recordIn, recordRefusals, findRecord, part, decidingAt, partAt, registersBad, sizesKept, newValue, newValues};
+ghost use Rattle.rules.specs.Records.{fieldAt, deciding, recordIn, recordRefusals, findRecord, decidingAt, registersBad, sizesKept, newValue, newValues};
+ghost use Rattle.rules.specs.Parts.{part, partAt};
 ghost use Rattle.rules.specs.Refusals.{firstOf};
 ghost use Rattle.hpx.specs.Answers.{valuesAt};
 
@@ -34,10 +35,7 @@ fn record_part<'a>(slot: &'a [u8], block: &'a [u8], at: FoundAt) -> &'a [u8]
     ensures { λ r. ⌜ (now r ≡ part at (deciding (now (slot .entry)) (now (block .entry))))
         × (r .ptr ≡ partAt at (decidingAt (now (slot .entry)) (slot .entry .ptr) (block .entry .ptr))) ⌝ }
 {
-    let b = deciding(slot, block);
-    let start = at.start;
-    let end = at.start + at.size;
-    &b[start..end]
+    parts::cut(deciding(slot, block), at)
 }
 
 // The record search, in one pass over the block. The struct holds a reference, so the proof walks the code by hand.

@@ -1,4 +1,4 @@
-// The limits of the documents, section by section in document 01's order: for each condition a call that just misses it and one that just meets it. One line for each call: what it is given,
+// The limits of the documents, section by section in document 01's order, then those of document 02, a: for each condition a call that just misses it and one that just meets it. One line for each call: what it is given,
 // the number that came, and what came beside it. A line in brackets names what the numbers of the lines after it are.
 
 fn main() {
@@ -6,4 +6,5 @@ fn main() {
     place_limits::lines();
     osc_limits::lines();
     record_limits::lines();
+    rom_limits::lines();
 }

@@ -8,14 +8,14 @@ use mathlib.Core.Option.{Option, none, some}
 use native.Mathlib.Omega.{arith}
 use lib.Dec.{eqb, leb}
 use borrow.Author.Tests.{leb-true, eqb-true, eq-eqb}
-use Rattle.rules.specs.Lists.{every, pairwise, first, isNone}
+use Rattle.rules.specs.Lists.{every, pairwise, first, isNone, prepend}
+use Rattle.rules.specs.Parts.{refused}
 use Rattle.rules.specs.Refusals.{_if_, firstOf}
-use Rattle.rules.specs.Records.{prepend, foundBy}
+use Rattle.rules.specs.Records.{foundBy}
 use Rattle.rules.specs.declared.Field.{Field}
 use Rattle.rules.specs.declared.FoundAt.{FoundAt}
 use Rattle.rules.proofs.Tests.{and-true, and-off}
-use Rattle.records.specs.Fields.{judged, noneSeen, has, marked}
-use Rattle.records.specs.Fields.{refused, choice}
+use Rattle.records.specs.Fields.{judged, noneSeen, has, marked, choice}
 use Rattle.records.specs.declared.Judged.{Judged}
 use Rattle.records.specs.declared.Judged.the-variants.{Skip, Record, Bad}
 use Rattle.records.specs.declared.Seen.{Seen}

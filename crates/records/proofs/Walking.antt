@@ -10,14 +10,14 @@ use lib.Dec.{eqb, leb, ltb}
 use lib.ListN.{length}
 use borrow.Author.Tests.{ltb-true, ltb-false, le-leb, lt-leb, eq-eqb, ne-eqb}
 use Rattle.rules.specs.Limits.{maxBlock}
-use Rattle.rules.specs.Lists.{isNone}
+use Rattle.rules.specs.Lists.{isNone, prepend}
+use Rattle.rules.specs.Parts.{refused}
 use Rattle.rules.specs.Refusals.{_if_, firstOf}
-use Rattle.rules.specs.Records.{fieldAt, prepend, fieldsFrom, fieldsOf, value, isRecord, fieldSound, soundFields, blockSound, recordAmong, recordIn, foundBy, findRecord}
+use Rattle.rules.specs.Records.{fieldAt, fieldsFrom, fieldsOf, value, isRecord, fieldSound, soundFields, blockSound, recordAmong, recordIn, foundBy, findRecord}
 use Rattle.rules.specs.declared.Field.{Field}
 use Rattle.rules.specs.declared.FoundAt.{FoundAt}
 use Rattle.rules.proofs.Tests.{and-l}
-use Rattle.records.specs.Fields.{fieldRead, judged, noneSeen, has, marked}
-use Rattle.records.specs.Fields.{refused, choice}
+use Rattle.records.specs.Fields.{fieldRead, judged, noneSeen, has, marked, choice}
 use Rattle.records.specs.declared.FieldRead.the-variants.{Whole, End}
 use Rattle.records.specs.declared.Judged.the-variants.{Skip, Record, Bad}
 use Rattle.records.specs.declared.Seen.{Seen}

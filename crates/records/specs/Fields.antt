@@ -2,10 +2,9 @@
 use Prim.Native.Nat.{ℕ, zero, suc, _+_}
 use mathlib.Core.Bool.{Bool, true, false, cond}
 use mathlib.Core.List.{List}
-use mathlib.Core.Option.{some}
 use lib.Dec.{eqb, leb}
 use lib.ListN.{length}
-use Rattle.rules.specs.Records.{fieldAt, foundBy}
+use Rattle.rules.specs.Records.{fieldAt, recordPart}
 use Rattle.rules.specs.declared.Field.{Field}
 use Rattle.rules.specs.declared.FoundAt.{FoundAt}
 use Rattle.records.specs.declared.FieldRead.{FieldRead}
@@ -40,10 +39,6 @@ marked s zero = record { «type_0» = true; «type_1» = s .«type_1»; «type_2
 marked s (suc zero) = record { «type_0» = s .«type_0»; «type_1» = true; «type_2» = s .«type_2» }
 marked s (suc (suc n)) = record { «type_0» = s .«type_0»; «type_1» = s .«type_1»; «type_2» = true }
 
--- "A refused call hands back zeros (or the empty part) beside its number"
-abbrev pub refused : ℕ → FoundAt
-refused n = record { number = n; start = 0; size = 0 }
-
 -- a record of the asked type is what the search gives; any other field leaves what it has
 abbrev pub choice : (type : ℕ) → Field → FoundAt → FoundAt
-choice type f found = cond (eqb (f .tag) type) (foundBy 0 (some f)) found
+choice type f found = cond (eqb (f .tag) type) (recordPart f) found

@@ -10,7 +10,7 @@ ghost use lib.Dec.{eqb, ltb};
 ghost use lib.ListN.{length};
 ghost use Rattle.rules.specs.Limits.{maxBlock};
 ghost use Rattle.rules.specs.Records.{isRecord, recordSize, valuesSound, fieldSound, findRecord};
-ghost use Rattle.records.specs.Fields.{fieldRead, judged, has, marked, refused, choice};
+ghost use Rattle.records.specs.Fields.{fieldRead, judged, has, marked, choice};
 
 // A field taken apart, or the end of the walk, which is refusal 8.
 pub enum FieldRead {
@@ -167,17 +167,6 @@ fn mark(seen: Seen, tag: u8) -> Seen
     }
 }
 
-// What is handed back beside a refusal number.
-fn refusal(number: u8) -> FoundAt
-    ensures { λ r. ⌜ r ≡ refused number ⌝ }
-{
-    FoundAt {
-        number,
-        start: 0,
-        size: 0,
-    }
-}
-
 // A record of the asked type is what the search gives; any other leaves what it has.
 fn chosen(found: FoundAt, f: Field, record_type: u32) -> FoundAt
     requires { ⌜ 3 + f .size < 2 ^ 64 ⌝ }
@@ -205,7 +194,7 @@ pub fn search_block(b: &[u8], record_type: u32) -> FoundAt
     ensures { λ r. ⌜ r ≡ findRecord [] (now (b .entry)) record_type ⌝ }
 {
     if too_long(b) {
-        return refusal(8);
+        return parts::refusal(8);
     }
     let mut at = 0;
     let mut seen = Seen {
@@ -213,21 +202,21 @@ pub fn search_block(b: &[u8], record_type: u32) -> FoundAt
         type_1: false,
         type_2: false,
     };
-    let mut found = refusal(9);
+    let mut found = parts::refusal(9);
     while at < b.len() {
         let FieldRead::Whole(f) = read_field(b, at) else {
-            return refusal(8);
+            return parts::refusal(8);
         };
         match judge(b, f) {
             Judged::Skip => {}
             Judged::Record => {
                 if has_record(seen, f.tag) {
-                    return refusal(8);
+                    return parts::refusal(8);
                 }
                 seen = mark(seen, f.tag);
                 found = chosen(found, f, record_type);
             }
-            Judged::Bad => return refusal(8),
+            Judged::Bad => return parts::refusal(8),
         }
         at = 3 + f.size + at;
     }

@@ -7,6 +7,7 @@ use Rattle.rules.proofs.Granting.{granted-bits}
 use Rattle.rules.proofs.Claims.{refusals-exactly, refused-changes-nothing, tables-sound, history-holds, queries-change-nothing, held-until-reset, there-and-back, back-and-there, one-address, separation, negotiation}
 use Rattle.rules.proofs.Buffers.{buffers-keep-length}
 use Rattle.rules.proofs.Records.{record-part}
+use Rattle.rules.proofs.Rom.{image-part, sound-chain}
 
 pub all-claims : AllClaims
 all-claims = record {
@@ -16,6 +17,8 @@ all-claims = record {
   refused-changes-nothing = refused-changes-nothing;
   buffers-keep-length = buffers-keep-length;
   record-part = record-part;
+  image-part = image-part;
+  sound-chain = sound-chain;
   tables-sound = tables-sound;
   history-holds = history-holds;
   queries-change-nothing = queries-change-nothing;

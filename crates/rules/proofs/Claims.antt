@@ -10,7 +10,9 @@ use Rattle.rules.specs.Tables.{withHolding, bridgeAt, withBridge, fixed}
 use Rattle.rules.specs.Place.{noPlace}
 use Rattle.rules.specs.Start.{StartInput, startRefusals, startNumber, startBy, startTable, tableOf}
 use Rattle.rules.specs.Osc.{recognised, oscAfter}
-use Rattle.rules.specs.Records.{recordRefusals, foundBy, findRecord, deciding, recordIn}
+use Rattle.rules.specs.Parts.{partBy}
+use Rattle.rules.specs.Records.{recordRefusals, recordPart, findRecord, deciding, recordIn}
+use Rattle.rules.specs.Rom.{imageRefusals, imagePart, findImage, imageIn}
 use Rattle.rules.specs.Calls.{osc, Call, on, locate, numberAt, outcomeBy, bridgeBy, locateBy, locateRefusals, placeBy, windowOf, located, step, listed, zeros, lent, zerosOf, lentTo, tableAfter}
 use Rattle.rules.specs.History.{historyFrom}
 use Rattle.rules.specs.Claims.{RefusalsExactly, RefusedChangesNothing, TablesSound, History, QueriesChangeNothing, HeldUntilReset, ThereAndBack, BackAndThere, OneAddress, Separation, Negotiation}
@@ -25,7 +27,7 @@ use Rattle.rules.proofs.Places.{there-and-back-like, back-and-there-lik
 use Rattle.rules.proofs.Starting.{start-sound, start-holds}
 use Rattle.rules.proofs.History.{history-from, in-array, held-bit}
 use Rattle.rules.proofs.Negotiation.{negotiated}
-use Rattle.rules.specs.declared.Field.{Field}
+use Rattle.rules.specs.declared.FoundAt.{FoundAt}
 use Rattle.rules.specs.declared.Place.{Place}
 use Rattle.rules.specs.declared.Holding.{Holding}
 
@@ -35,10 +37,11 @@ locate-number : (k : ℕ) (p : Place) → locateBy k p .number ≡ k
 locate-number zero p = refl
 locate-number (suc k) p = refl
 
-found-number : (k : ℕ) (o : Option Field) → foundBy k o .number ≡ k
-found-number zero none = refl
-found-number zero (some f) = refl
-found-number (suc k) o = refl
+-- a search's number, where a part that is found has number 0
+part-number : {A : Type 0} (p : A → FoundAt) → ((x : A) → p x .number ≡ 0) → (k : ℕ) (o : Option A) → partBy p k o .number ≡ k
+part-number p z zero none = refl
+part-number p z zero (some x) = z x
+part-number p z (suc k) o = refl
 
 call-number : (t : Table) (c : Call) → step t c .outcome .number ≡ firstOf (listed t c)
 unfolding step
@@ -55,7 +58,9 @@ refusals-exactly = (
   λ t c k. by-list (step t c .outcome .number) k (listed t c) (call-number t c),
   λ x k. by-list (startNumber x) k (startRefusals x) refl,
   λ slot block type k. by-list (findRecord slot block type .number) k (recordRefusals slot block type)
-      (found-number (firstOf (recordRefusals slot block type)) (recordIn (deciding slot block) type)),
+      (part-number recordPart (λ f. refl) (firstOf (recordRefusals slot block type)) (recordIn (deciding slot block) type)),
+  λ rom vendor device codeType k. by-list (findImage rom vendor device codeType .number) k (imageRefusals rom vendor device codeType)
+      (part-number imagePart (λ m. refl) (firstOf (imageRefusals rom vendor device codeType)) (imageIn rom vendor device codeType)),
 )
 
 -- ---- refused calls
@@ -79,17 +84,19 @@ start-refused : (k : ℕ) (x : StartInput) → (k ≡ 0 → ⊥) → startBy k x
 start-refused zero x r = absurd (r refl)
 start-refused (suc k) x r = refl
 
-found-refused : (k : ℕ) (o : Option Field) → (foundBy k o .number ≡ 0 → ⊥) → foundBy k o .size ≡ 0
-found-refused zero none r = refl
-found-refused zero (some f) r = absurd (r refl)
-found-refused (suc k) o r = refl
+part-refused : {A : Type 0} (p : A → FoundAt) → ((x : A) → p x .number ≡ 0) → (k : ℕ) (o : Option A) → (partBy p k o .number ≡ 0 → ⊥) → partBy p k o .size ≡ 0
+part-refused p z zero none r = refl
+part-refused p z zero (some x) r = absurd (r (z x))
+part-refused p z (suc k) o r = refl
 
 pub refused-changes-nothing : RefusedChangesNothing
 unfolding startTable
 refused-changes-nothing = (
   call-refused,
   λ x. start-refused (startNumber x) x,
-  λ slot block type. found-refused (firstOf (recordRefusals slot block type)) (recordIn (deciding slot block) type),
+  λ slot block type. part-refused recordPart (λ f. refl) (firstOf (recordRefusals slot block type)) (recordIn (deciding slot block) type),
+  λ rom vendor device codeType.
+      part-refused imagePart (λ m. refl) (firstOf (imageRefusals rom vendor device codeType)) (imageIn rom vendor device codeType),
 )
 
 -- ---- tables

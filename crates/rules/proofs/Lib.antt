@@ -17,5 +17,6 @@ pub mod History
 pub mod Negotiation
 pub mod Claims
 pub mod Records
+pub mod Rom
 pub mod Buffers
 pub mod AllClaims

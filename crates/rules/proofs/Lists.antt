@@ -1,14 +1,17 @@
--- What the tests over lists say of each element and each pair; padded lists; the first element that passes.
+-- What the tests over lists say of each element and each pair; padded lists; the first element that passes; byte strings that are the same.
 -- Assumes nothing.
 use mathlib.Core.Path.{_≡_, refl, ap}
-use mathlib.Core.Bool.{Bool, true, false, cond, true≢false}
+use mathlib.Core.Bool.{Bool, true, false, cond, _&&_, true≢false}
 use mathlib.Core.List.{List, [], _∷_, map}
 use mathlib.Core.Option.{some}
 use Prim.Native.Nat.{ℕ, zero, suc, _<_}
 use native.Mathlib.Nat.{le-of-suc-le-suc, not-suc-le-zero}
 use native.Mathlib.Omega.{arith}
+use borrow.Author.Tests.{eqb-true}
+use lib.Dec.{eqb}
 use lib.ListN.{length, getD}
 use Rattle.rules.specs.Lists.{every, pairwise, padded, first, isNone}
+use Rattle.rules.specs.Numbers.{sameBytes}
 use Rattle.rules.specs.Claims.{EveryAndPair}
 use Rattle.rules.proofs.Tests.{and-true, and-is}
 
@@ -72,3 +75,14 @@ module _ {A : Type 0} (d : A) (p : A → Bool) where
       go ih false h k =
           let f = ih k in
           record { at = suc (f .at); in-list = omega (arith, f .in-list); is = rw h (f .is); passes = f .passes }
+
+-- strings that are the same are equal
+pub same-eq : (a b : List ℕ) → sameBytes a b ≡ true → a ≡ b
+same-eq [] [] e = refl
+same-eq [] (y ∷ b) e = cc
+same-eq (x ∷ a) [] e = cc
+same-eq (x ∷ a) (y ∷ b) e = both (eqb x y) refl (same-eq a b) e
+  where
+    both : (t : Bool) → eqb x y ≡ t → (sameBytes a b ≡ true → a ≡ b) → t && sameBytes a b ≡ true → x ∷ a ≡ y ∷ b
+    both true p f q = cc (eqb-true x y p, f q)
+    both false p f q = cc

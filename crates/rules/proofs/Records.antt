@@ -10,10 +10,10 @@ use native.Mathlib.Omega.{arith}
 use borrow.Author.Tests.{eqb-true, leb-true}
 use lib.Dec.{eqb, leb}
 use lib.ListN.{length, getD}
-use Rattle.rules.specs.Lists.{isNone}
+use Rattle.rules.specs.Lists.{isNone, prepend}
 use Rattle.rules.specs.Numbers.{byte, word, dword}
 use Rattle.rules.specs.Refusals.{_if_, firstOf}
-use Rattle.rules.specs.Records.{fieldAt, prepend, fieldsFrom, fieldsOf, value, isRecord, blockSound, deciding, recordAmong, recordIn, recordRefusals, foundBy}
+use Rattle.rules.specs.Records.{fieldAt, fieldsFrom, fieldsOf, value, isRecord, blockSound, deciding, recordAmong, recordIn, recordRefusals, foundBy}
 use Rattle.rules.specs.Claims.{RecordPart}
 use Rattle.rules.proofs.Tests.{and-true}
 use Rattle.rules.proofs.Refusals.{clear}

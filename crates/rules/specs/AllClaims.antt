@@ -1,5 +1,5 @@
 -- All claims, one field for each. Its one proof is `all-claims`; the public crate uses every field of it.
-use Rattle.rules.specs.Claims.{EveryAndPair, GrantedBits, RefusalsExactly, RefusedChangesNothing, BuffersKeepLength, RecordPart, TablesSound, History, QueriesChangeNothing, HeldUntilReset, ThereAndBack, BackAndThere, OneAddress, Separation, Negotiation}
+use Rattle.rules.specs.Claims.{EveryAndPair, GrantedBits, RefusalsExactly, RefusedChangesNothing, BuffersKeepLength, RecordPart, ImagePart, SoundChain, TablesSound, History, QueriesChangeNothing, HeldUntilReset, ThereAndBack, BackAndThere, OneAddress, Separation, Negotiation}
 use Rattle.rules.specs.BenchSheet.{BenchSheet}
 use Rattle.rules.specs.BenchRuns.{ExampleRuns}
 
@@ -11,6 +11,8 @@ pub record AllClaims : Type 1 where
   pub refused-changes-nothing : RefusedChangesNothing
   pub buffers-keep-length : BuffersKeepLength
   pub record-part : RecordPart
+  pub image-part : ImagePart
+  pub sound-chain : SoundChain
   -- what start leaves and every call keeps
   pub tables-sound : TablesSound
   -- demand 2

@@ -1,12 +1,15 @@
--- Example runs: starts, a run of two sessions on one table, record searches, register values, grants and places.
-use Prim.Native.Nat.{ℕ, zero, suc}
+-- Example runs: starts, a run of two sessions on one table, record searches, images of a ROM, register values, grants and places.
+use Prim.Native.Nat.{ℕ, zero, suc, _-_, _/_, _%_}
 use mathlib.Core.Bool.{true, false}
 use mathlib.Core.List.{List, [], _∷_, _++_}
+use lib.Dec.{leb}
 use lib.ListN.{take, set, replicate}
+use Rattle.rules.specs.Limits.{maxRom}
 use Rattle.rules.specs.Place.{placeBad, busOutside}
 use Rattle.rules.specs.Start.{StartInput, express, conventional, startNumber, bridgeOf, startTable}
 use Rattle.rules.specs.Osc.{uuidBytes}
 use Rattle.rules.specs.Records.{findRecord}
+use Rattle.rules.specs.Rom.{findImage}
 use Rattle.rules.specs.Calls.{osc, reset, report, address, registerValues, Call, on, locate, nothing, reported, addressed, located, values, outcome, outcomes}
 use Rattle.rules.specs.BenchSheet.{Line, _gives_, AllHold, oscOn, registersOn, newRegisters}
 use Rattle.rules.specs.declared.Bridge.{Bridge}
@@ -234,6 +237,73 @@ searches =
     ∷ (findRecord [] (0x03 ∷ 0xFE ∷ 0x0F ∷ replicate 4094 0) 0 gives found 8 0 0)
     ∷ []
 
+-- ---- images of a ROM, document 02, a
+
+-- a structure of 24 bytes; its device list pointer is 0x18
+abbrev pub structure : (vendor device units codeType indicator : ℕ) → List ℕ
+structure vendor device units codeType indicator =
+    0x50 ∷ 0x43 ∷ 0x49 ∷ 0x52 ∷ vendor % 256 ∷ vendor / 256 ∷ device % 256 ∷ device / 256 ∷ 0x18 ∷ 0 ∷ 0x18 ∷ 0 ∷ 3 ∷ 0 ∷ 0 ∷ 2
+    ∷ units % 256 ∷ units / 256 ∷ 0 ∷ 0 ∷ codeType ∷ indicator ∷ 0 ∷ 0 ∷ []
+
+-- so many bytes: the header, and a structure where its pointer leads; after the structure a device list of 0x8168
+abbrev pub withStructure : (bytes pointer : ℕ) → List ℕ → List ℕ
+withStructure bytes pointer s =
+    take bytes (0x55 ∷ 0xAA ∷ replicate 22 0 ++ (pointer % 256 ∷ pointer / 256 ∷ replicate (pointer - 26) 0) ++ s ++ (0x68 ∷ 0x81 ∷ replicate bytes 0))
+
+-- an image of 512 bytes with vendor 0x10EC and device 0x8139, its structure at 0x1C
+abbrev pub image : (codeType indicator : ℕ) → List ℕ
+image codeType indicator = withStructure 512 0x1C (structure 0x10EC 0x8139 1 codeType indicator)
+
+-- code type 0, then 3, the last
+abbrev pub twoImages : List ℕ
+twoImages = image 0 0 ++ image 3 0x80
+
+-- such a ROM, asked for vendor 0x10EC and device 0x8139
+abbrev pub choose : List ℕ → (codeType : ℕ) → FoundAt
+choose rom codeType = findImage rom 0x10EC 0x8139 codeType
+
+abbrev pub images : List Line
+images =
+    (choose (image 0 0x80) 0 gives found 0 0 512)
+    ∷ (choose twoImages 0 gives found 0 0 512)
+    ∷ (choose twoImages 3 gives found 0 512 512)
+    ∷ (choose (image 3 0 ++ image 3 0x80) 3 gives found 0 0 512)
+    -- another code type; another device; another vendor; the device of the list; numbers above two bytes, and above one
+    ∷ (choose twoImages 1 gives found 13 0 0)
+    ∷ (findImage twoImages 0x10EC 0x8138 0 gives found 13 0 0)
+    ∷ (findImage twoImages 0x10ED 0x8139 0 gives found 13 0 0)
+    ∷ (findImage twoImages 0x10EC 0x8168 0 gives found 13 0 0)
+    ∷ (findImage twoImages 0x110EC 0x8139 0 gives found 13 0 0)
+    ∷ (findImage twoImages 0x10EC 0x18139 0 gives found 13 0 0)
+    ∷ (choose twoImages 256 gives found 13 0 0)
+    -- the first matches, and the second has 0xAB in place of 0xAA; 0x54; `PCIX`
+    ∷ (choose (set twoImages 513 0xAB) 0 gives found 12 0 0)
+    ∷ (choose (set twoImages 0 0x54) 0 gives found 12 0 0)
+    ∷ (choose (set (image 0 0x80) 0x1F 0x58) 0 gives found 12 0 0)
+    -- no byte; 511; length 0; lengths 2 and 0x101 in 512 bytes
+    ∷ (choose [] 0 gives found 12 0 0)
+    ∷ (choose (take 511 (image 0 0x80)) 0 gives found 12 0 0)
+    ∷ (choose (set (image 0 0x80) 0x2C 0) 0 gives found 12 0 0)
+    ∷ (choose (set (image 0 0x80) 0x2C 2) 0 gives found 12 0 0)
+    ∷ (choose (set (image 0 0x80) 0x2D 1) 0 gives found 12 0 0)
+    -- indicators 0x7F and 0xFF; an image after the last, and a byte that is none
+    ∷ (choose (image 0 0x7F) 0 gives found 12 0 0)
+    ∷ (choose (image 0 0xFF) 0 gives found 0 0 512)
+    ∷ (choose (image 0 0x80 ++ image 3 0x80) 3 gives found 13 0 0)
+    ∷ (choose (image 0 0x80 ++ 0 ∷ []) 0 gives found 0 0 512)
+    -- pointers 0x1E8 and 0x1E9 in 512 bytes; 0x1A; 0x200, past the image; length 2 in 1024 bytes, alone and before another image
+    ∷ (choose (withStructure 512 0x1E8 (structure 0x10EC 0x8139 1 0 0x80)) 0 gives found 0 0 512)
+    ∷ (choose (withStructure 512 0x1E9 (structure 0x10EC 0x8139 1 0 0x80)) 0 gives found 12 0 0)
+    ∷ (choose (withStructure 512 0x1A (structure 0x10EC 0x8139 1 0 0x80)) 0 gives found 0 0 512)
+    ∷ (choose (withStructure 1024 0x200 (structure 0x10EC 0x8139 1 0 0x80)) 0 gives found 0 0 512)
+    ∷ (choose (withStructure 1024 0x1C (structure 0x10EC 0x8139 2 0 0x80)) 0 gives found 0 0 1024)
+    ∷ (choose (withStructure 1024 0x1C (structure 0x10EC 0x8139 2 0 0) ++ image 3 0x80) 3 gives found 0 1024 512)
+    ∷ []
+
+-- 16 MiB, and a byte more
+abbrev pub romSizes : List Line
+romSizes = (leb 16777216 maxRom gives true) ∷ (leb 16777217 maxRom gives false) ∷ []
+
 -- ---- register values beyond the sheet, document 02, f: AER held; every bit set by the record; every bit cleared by it
 
 abbrev pub registers : List Line
@@ -281,4 +351,4 @@ places =
     ∷ []
 
 abbrev pub ExampleRuns : Type 0
-ExampleRuns = AllHold starts × AllHold run × AllHold searches × AllHold registers × AllHold grants × AllHold places
+ExampleRuns = AllHold starts × AllHold run × AllHold searches × AllHold images × AllHold romSizes × AllHold registers × AllHold grants × AllHold places

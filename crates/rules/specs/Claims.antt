@@ -5,9 +5,10 @@ use mathlib.Core.Logic.{_↔_, _⊎_}
 use mathlib.Core.Bool.{Bool, true, false}
 use mathlib.Core.List.{List, [], _∷_, map}
 use mathlib.Core.Option.{some}
-use Prim.Native.Nat.{ℕ, _+_, _≤_, _<_}
+use Prim.Native.Nat.{ℕ, _+_, _*_, _≤_, _<_}
 use lib.Bits.{bitOr}
-use lib.ListN.{length, getD}
+use lib.ListN.{length, getD, take, drop}
+use Rattle.rules.specs.Limits.{maxRom}
 use Rattle.rules.specs.Lists.{every, pairwise}
 use Rattle.rules.specs.Numbers.{byte, word, dword, bit}
 use Rattle.rules.specs.Refusals.{GivenBy}
@@ -16,6 +17,7 @@ use Rattle.rules.specs.Place.{InReach}
 use Rattle.rules.specs.Start.{StartInput, startRefusals, startNumber, startTable, tableOf, Sound}
 use Rattle.rules.specs.Osc.{grantedBit, granted, uuidBytes, status, query, control}
 use Rattle.rules.specs.Records.{deciding, recordRefusals, findRecord}
+use Rattle.rules.specs.Rom.{imageSignature, structureAt, imagesOf, romSound, imageRefusals, findImage, Chain}
 use Rattle.rules.specs.Calls.{osc, reset, address, Call, on, locate, Result, addressed, located, Outcome, outcome, step, listed, zerosOf, lentTo, tableAfter, sessionOf, callsOf, outcomesOf, widthOf}
 use Rattle.rules.specs.History.{reaches, historyStep, historyFrom}
 use Rattle.rules.specs.declared.Bridge.{Bridge}
@@ -23,6 +25,7 @@ use Rattle.rules.specs.declared.BridgeNumber.{BridgeNumber}
 use Rattle.rules.specs.declared.SessionNumber.{SessionNumber}
 use Rattle.rules.specs.declared.Table.{Table}
 use Rattle.rules.specs.declared.FoundAt.{FoundAt}
+use Rattle.rules.specs.declared.Image.{Image}
 use Rattle.rules.specs.declared.Place.{Place}
 use Rattle.rules.specs.declared.Holding.{Holding}
 
@@ -43,6 +46,7 @@ RefusalsExactly =
     ((t : Table) (c : Call) (k : ℕ) → step t c .outcome .number ≡ k ↔ GivenBy k (listed t c))
     × ((x : StartInput) (k : ℕ) → startNumber x ≡ k ↔ GivenBy k (startRefusals x))
     × ((slot block : List ℕ) (type k : ℕ) → findRecord slot block type .number ≡ k ↔ GivenBy k (recordRefusals slot block type))
+    × ((rom : List ℕ) (vendor device codeType k : ℕ) → findImage rom vendor device codeType .number ≡ k ↔ GivenBy k (imageRefusals rom vendor device codeType))
 
 -- "A refused call hands back zeros (or the empty part) beside its number and changes nothing"
 abbrev pub RefusedChangesNothing : Type 0
@@ -51,6 +55,7 @@ RefusedChangesNothing =
     → (step t c .table ≡ t) × (step t c .outcome .result ≡ zerosOf c) × (step t c .outcome .left ≡ lentTo c))
     × ((x : StartInput) → (startNumber x ≡ 0 → ⊥) → startTable x ≡ tableOf [])
     × ((slot block : List ℕ) (type : ℕ) → (findRecord slot block type .number ≡ 0 → ⊥) → findRecord slot block type .size ≡ 0)
+    × ((rom : List ℕ) (vendor device codeType : ℕ) → (findImage rom vendor device codeType .number ≡ 0 → ⊥) → findImage rom vendor device codeType .size ≡ 0)
 
 -- "a full answer buffer": a call leaves every lent buffer as long as it was
 abbrev pub BuffersKeepLength : Type 0
@@ -63,6 +68,19 @@ RecordPart = (slot block : List ℕ) (type : ℕ)
     let f : FoundAt = findRecord slot block type in
     f .number ≡ 0
     → (f .start + f .size ≤ length l) × (byte l (f .start) ≡ type) × (f .size ≡ 3 + word l (1 + f .start)) × (dword l (3 + f .start) ≡ 1)
+
+-- document 02, a: "the first image with the asked vendor, device and code type (its structure's own fields ..) as a part of the ROM", header included
+abbrev pub ImagePart : Type 0
+ImagePart = (rom : List ℕ) (vendor device codeType : ℕ)
+    → let f : FoundAt = findImage rom vendor device codeType in
+    let s : ℕ = structureAt rom (f .start) in
+    f .number ≡ 0
+    → (f .start + f .size ≤ length rom) × (f .size ≡ 512 * word rom (0x10 + s)) × (take 2 (drop (f .start) rom) ≡ imageSignature)
+    × (word rom (4 + s) ≡ vendor) × (word rom (6 + s) ≡ device) × (byte rom (0x14 + s) ≡ codeType)
+
+-- a ROM is sound exactly where it has a chain of sound images from its first byte to a last image, and these are then its images
+abbrev pub SoundChain : Type 0
+SoundChain = (rom : List ℕ) (r : List Image) → ((romSound rom ≡ true) × (imagesOf rom ≡ some r)) ↔ ((length rom ≤ maxRom) × Chain rom 0 r)
 
 -- ---- what start leaves and every call keeps
 

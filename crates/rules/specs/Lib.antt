@@ -7,7 +7,9 @@ pub mod Mcfg
 pub mod Place
 pub mod Osc
 pub mod Start
+pub mod Parts
 pub mod Records
+pub mod Rom
 pub mod Calls
 pub mod History
 pub mod Claims

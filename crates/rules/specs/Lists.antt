@@ -31,6 +31,11 @@ module _ {A : Type 0} where
   first p [] = none
   first p (x ∷ l) = cond (p x) (some x) (first p l)
 
+  -- an element before the rest of a walk
+  abbrev pub prepend : A → Option (List A) → Option (List A)
+  prepend x none = none
+  prepend x (some l) = some (x ∷ l)
+
   -- nothing was found
   abbrev pub isNone : Option A → Bool
   isNone none = true

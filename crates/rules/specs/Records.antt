@@ -5,10 +5,11 @@ use mathlib.Core.List.{List, [], _∷_}
 use mathlib.Core.Option.{Option, none, some}
 use lib.Bits.{bitAnd, bitOr}
 use lib.Dec.{eqb, leb, ltb}
-use lib.ListN.{length, getD, take, drop}
+use lib.ListN.{length, getD}
 use Rattle.rules.specs.Limits.{maxBlock}
-use Rattle.rules.specs.Lists.{every, pairwise, first, isNone}
+use Rattle.rules.specs.Lists.{every, pairwise, first, isNone, prepend}
 use Rattle.rules.specs.Numbers.{byte, word, dword, bit, number}
+use Rattle.rules.specs.Parts.{partBy}
 use Rattle.rules.specs.Refusals.{Refusal, _if_, firstOf}
 use Rattle.rules.specs.declared.Field.{Field}
 use Rattle.rules.specs.declared.FoundAt.{FoundAt}
@@ -16,11 +17,6 @@ use Rattle.rules.specs.declared.FoundAt.{FoundAt}
 -- the field at byte i: "tag (record type, 1 byte), length (2 bytes, little-endian)"
 abbrev pub fieldAt : List ℕ → ℕ → Field
 fieldAt l i = record { start = i; tag = byte l i; size = word l (1 + i) }
-
--- the field before the rest of the walk
-abbrev pub prepend : Field → Option (List Field) → Option (List Field)
-prepend f none = none
-prepend f (some r) = some (f ∷ r)
 
 -- the fields from byte i "to its very end", at most n; none where "a length running past the end" or "one or two bytes left over" ends the walk
 abbrev pub fieldsFrom : ℕ → List ℕ → ℕ → Option (List Field)
@@ -106,7 +102,7 @@ recordAmong l type (some r) = first (λ f. isRecord l f && eqb (f .tag) type) r
 unfoldable pub recordIn : List ℕ → ℕ → Option Field
 recordIn l type = recordAmong l type (fieldsOf l)
 
--- ---- the record search: its number, and the part of the deciding block handed back, header included
+-- ---- the record search: its number, and the part of the deciding block handed back
 
 -- "Record search 8, 9"
 abbrev pub recordRefusals : (slot block : List ℕ) (type : ℕ) → List Refusal
@@ -115,27 +111,22 @@ recordRefusals slot block type =
     ∷ (9 if isNone (recordIn (deciding slot block) type))
     ∷ []
 
--- by the number: 0 hands back the part, any other the empty part
+-- a record as a part of its block, "header included"
+abbrev pub recordPart : Field → FoundAt
+recordPart f = record { number = 0; start = f .start; size = 3 + f .size }
+
+-- by the number: the record, or the empty part
 abbrev pub foundBy : ℕ → Option Field → FoundAt
-foundBy zero none = record { number = 0; start = 0; size = 0 }
-foundBy zero (some f) = record { number = 0; start = f .start; size = 3 + f .size }
-foundBy (suc k) o = record { number = suc k; start = 0; size = 0 }
+foundBy k o = partBy recordPart k o
 
 -- the record search
 abbrev pub findRecord : (slot block : List ℕ) (type : ℕ) → FoundAt
 findRecord slot block type = foundBy (firstOf (recordRefusals slot block type)) (recordIn (deciding slot block) type)
 
--- the bytes of the part of a block
-abbrev pub part : FoundAt → List ℕ → List ℕ
-part r l = take (r .size) (drop (r .start) l)
-
--- "never a copy": where the deciding block lies, and where a part of it does, each a region of memory and an offset
+-- where the deciding block lies, a region of memory and an offset
 abbrev pub decidingAt : (slot : List ℕ) → (slotAt blockAt : ℕ × ℕ) → ℕ × ℕ
 decidingAt [] slotAt blockAt = blockAt
 decidingAt (x ∷ slot) slotAt blockAt = slotAt
-
-abbrev pub partAt : FoundAt → ℕ × ℕ → ℕ × ℕ
-partAt r p = (p .0, r .start + p .1)
 
 -- ---- register values
 

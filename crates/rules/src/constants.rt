@@ -7,6 +7,8 @@ pub const MAX_OWNER: u8 = 63;
 
 pub const MAX_BLOCK: usize = 4096;
 
+pub const MAX_ROM: usize = 16777216;
+
 // The kinds of specs/Start.
 pub const EXPRESS: u8 = 0;
 

@@ -74,7 +74,14 @@ pub struct Field {
     pub size: usize,
 }
 
-// What the record search gives: its number, and where the part of the deciding block starts and its length, header included.
+// An image of an expansion ROM: where it starts, where its PCI Data Structure does, and its length.
+pub struct Image {
+    pub start: usize,
+    pub structure: usize,
+    pub size: usize,
+}
+
+// What a search of lent bytes gives, the record search and the image search: its number, and where the part of them starts and its length, header included.
 #[repr(C)]
 pub struct FoundAt {
     pub number: u8,
@@ -110,13 +117,13 @@ pub struct Located {
     pub place: Place,
 }
 
-// The record search's; the part of the deciding block is empty when refused.
+// A search's, with the part of the deciding block or of the ROM, which is empty when refused.
 pub struct Found<'a> {
     pub number: u8,
     pub part: &'a [u8],
 }
 
-// The same as it crosses to C: whether the record lies in the slot's block, where it starts there and its length, header included.
+// The record search's as it crosses to C: whether the record lies in the slot's block, where it starts there and its length, header included.
 #[repr(C)]
 pub struct RecordAt {
     pub number: u8,

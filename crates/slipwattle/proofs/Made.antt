@@ -5,10 +5,12 @@ use mathlib.Core.Path.{_≡_, refl, sym, ap, subst, _∙_}
 use mathlib.Core.Logic.{_↔_, _⊎_}
 use mathlib.Core.Bool.{Bool, true, false, cond}
 use mathlib.Core.List.{List, [], _∷_, map}
-use Prim.Native.Nat.{ℕ, suc, _+_, _≤_, _<_}
+use Prim.Native.Nat.{ℕ, suc, _+_, _*_, _≤_, _<_}
 use native.Mathlib.Omega.{arith}
 use lib.Bits.{bitOr}
-use lib.ListN.{length, getD}
+use lib.ListN.{length, getD, take, drop}
+use mathlib.Core.Option.{some}
+use Rattle.rules.specs.Limits.{maxRom}
 use Rattle.rules.specs.Numbers.{byte, word, dword, bit}
 use Rattle.rules.specs.Lists.{every, pairwise}
 use Rattle.rules.specs.Refusals.{GivenBy}
@@ -17,14 +19,16 @@ use Rattle.rules.specs.Place.{InReach}
 use Rattle.rules.specs.Start.{StartInput, startRefusals, startNumber, startTable, tableOf, Sound}
 use Rattle.rules.specs.Osc.{grantedBit, granted, status, query, control}
 use Rattle.rules.specs.Records.{deciding, recordRefusals, findRecord}
+use Rattle.rules.specs.Rom.{imageSignature, structureAt, imagesOf, romSound, imageRefusals, findImage, Chain}
 use Rattle.rules.specs.Calls.{Call, on, osc, reset, locate, Result, addressed, located, Outcome, outcome, step, listed, zerosOf, lentTo, tableAfter, outcomes, isUnder, callsOf, outcomesOf}
 use Rattle.rules.specs.History.{reaches, historyFrom}
 use Rattle.rules.specs.Claims.{addressCall, answers, Given, Separate, Buffers, rightCall, answerOf, Undisturbed, atTaking, secondOutcome, takingOutcome, returned, Negotiated}
 use Rattle.rules.specs.BenchSheet.{AllHold, sheet}
-use Rattle.rules.specs.BenchRuns.{starts, run, searches, registers, grants, places}
+use Rattle.rules.specs.BenchRuns.{starts, run, searches, images, romSizes, registers, grants, places}
 use Rattle.rules.specs.declared.Table.{Table}
 use Rattle.rules.specs.declared.Bridge.{Bridge}
 use Rattle.rules.specs.declared.FoundAt.{FoundAt}
+use Rattle.rules.specs.declared.Image.{Image}
 use Rattle.rules.specs.declared.Place.{Place}
 use Rattle.rules.specs.declared.BridgeNumber.{BridgeNumber}
 use Rattle.rules.specs.declared.SessionNumber.{SessionNumber}
@@ -78,6 +82,9 @@ exactly-start = all-claims .refusals-exactly .1
 pub exactly-search : (slot block : List ℕ) (type k : ℕ) → findRecord slot block type .number ≡ k ↔ GivenBy k (recordRefusals slot block type)
 exactly-search = all-claims .refusals-exactly .2
 
+pub exactly-image : (rom : List ℕ) (vendor device codeType k : ℕ) → findImage rom vendor device codeType .number ≡ k ↔ GivenBy k (imageRefusals rom vendor device codeType)
+exactly-image = all-claims .refusals-exactly .3
+
 not-zero : (n k : ℕ) → n ≡ suc k → n ≡ 0 → ⊥
 not-zero n k e z = let f : suc k ≡ 0 = sym e ∙ z in absurd (omega arith)
 
@@ -106,6 +113,11 @@ pub refused-search : (slot block : List ℕ) (type k : ℕ) → GivenBy (suc k) 
 refused-search slot block type k g =
     all-claims .refused-changes-nothing .2 slot block type (not-zero (findRecord slot block type .number) k (exactly-search slot block type (suc k) .1 g))
 
+pub refused-image : (rom : List ℕ) (vendor device codeType k : ℕ) → GivenBy (suc k) (imageRefusals rom vendor device codeType) → findImage rom vendor device codeType .size ≡ 0
+refused-image rom vendor device codeType k g =
+    all-claims .refused-changes-nothing .3 rom vendor device codeType
+    (not-zero (findImage rom vendor device codeType .number) k (exactly-image rom vendor device codeType (suc k) .1 g))
+
 pub same-lengths : (t : Table) (c : Call) → map length (step t c .outcome .left) ≡ map length (lentTo c)
 same-lengths = all-claims .buffers-keep-length
 
@@ -114,6 +126,16 @@ pub found-inside : (slot block : List ℕ) (type : ℕ) → findRecord slot bloc
     let f : FoundAt = findRecord slot block type in
     (f .start + f .size ≤ length l) × (byte l (f .start) ≡ type) × (f .size ≡ 3 + word l (1 + f .start)) × (dword l (3 + f .start) ≡ 1)
 found-inside = all-claims .record-part
+
+pub image-inside : (rom : List ℕ) (vendor device codeType : ℕ) → findImage rom vendor device codeType .number ≡ 0
+    → let f : FoundAt = findImage rom vendor device codeType in
+    let s : ℕ = structureAt rom (f .start) in
+    (f .start + f .size ≤ length rom) × (f .size ≡ 512 * word rom (0x10 + s)) × (take 2 (drop (f .start) rom) ≡ imageSignature)
+    × (word rom (4 + s) ≡ vendor) × (word rom (6 + s) ≡ device) × (byte rom (0x14 + s) ≡ codeType)
+image-inside = all-claims .image-part
+
+pub chain-sound : (rom : List ℕ) (r : List Image) → ((romSound rom ≡ true) × (imagesOf rom ≡ some r)) ↔ ((length rom ≤ maxRom) × Chain rom 0 r)
+chain-sound = all-claims .sound-chain
 
 -- ---- demand 2, of a list of calls made
 
@@ -230,8 +252,8 @@ pub granted-bits : (b : Bridge) (support requested i : ℕ) → bit (granted b s
 granted-bits = all-claims .granted-bits
 
 -- as many lines as there are, and all hold
-pub lines : AllHold sheet × (AllHold starts × AllHold run × AllHold searches × AllHold registers × AllHold grants × AllHold places)
+pub lines : AllHold sheet × (AllHold starts × AllHold run × AllHold searches × AllHold images × AllHold romSizes × AllHold registers × AllHold grants × AllHold places)
 lines = (all-claims .bench-sheet, all-claims .example-runs)
 
-pub how-many : (length sheet ≡ 13) × (length starts ≡ 28) × (length run ≡ 1) × (length searches ≡ 16) × (length registers ≡ 3) × (length grants ≡ 5) × (length places ≡ 13)
-how-many = (refl, refl, refl, refl, refl, refl, refl)
+pub how-many : (length sheet ≡ 13) × (length starts ≡ 28) × (length run ≡ 1) × (length searches ≡ 16) × (length images ≡ 29) × (length romSizes ≡ 2) × (length registers ≡ 3) × (length grants ≡ 5) × (length places ≡ 13)
+how-many = (refl, refl, refl, refl, refl, refl, refl, refl, refl)

@@ -1,9 +1,10 @@
-// The calls of document 01 on a lent table, which C and Rust link. Each works on one bridge where it stands: the call on the bridge hands it back, and what it holds, all that a
+// The calls of document 01 on a lent table, the record search and document 02's image search, which C and Rust link. Each call on a table works on one bridge where it stands: the call on the bridge hands it back, and what it holds, all that a
 // call changes, is stored where the number is 0; a refused call stores nothing in the table. Some bridge is read whatever the bridge number is (one_bridge::index); the call on the bridge refuses a
 // bridge that the table has not. The proofs walk the code by hand.
 use rules::Addressed;
 use rules::BridgeNumber;
 use rules::BridgeRow;
+use rules::FoundAt;
 use rules::Located;
 use rules::RecordAt;
 use rules::Reported;
@@ -30,6 +31,7 @@ ghost use Rattle.rules.specs.Calls.{
   outcome,
   step,
 };
+ghost use Rattle.rules.specs.Rom.{findImage};
 ghost use Rattle.slipwattle.specs.Boundary.{recordAt};
 
 // The table of the rows, of any number, or a refusal and no bridges.
@@ -171,6 +173,19 @@ pub extern "C" fn slipwattle_find_record<'a>(
         start: found.start,
         size: found.size,
     }
+}
+
+// Where the image lies in the ROM. Vendor, device and code type are u32, so that none is taken for a smaller number.
+#[no_mangle]
+pub extern "C" fn slipwattle_find_image(
+    rom: &[u8],
+    vendor: u32,
+    device: u32,
+    code_type: u32,
+) -> FoundAt
+    ensures { λ r. ⌜ r ≡ findImage (now (rom .entry)) vendor device «code_type» ⌝ }
+{
+    rom::search(rom, vendor, device, code_type)
 }
 
 #[no_mangle]

@@ -6,6 +6,7 @@ use rules::BridgeNumber;
 use rules::BridgeRow;
 use rules::SessionNumber;
 use rules::Table;
+ghost use Prim.Native.Nat.{_≤_};
 ghost use Rattle.rules.specs.Start.{Sound};
 
 // The base of the MCFG entry.
@@ -30,7 +31,7 @@ fn end() {
     text(b".\n");
 }
 
-// Document 01's words for a refusal number.
+// The documents' words for a refusal number.
 fn refusal(number: u8) {
     match number {
         1 => text(b"the bridge number is not in the table"),
@@ -45,7 +46,9 @@ fn refusal(number: u8) {
         8 => text(b"the deciding record block breaks a rule"),
         9 => text(b"the deciding block has no such record"),
         10 => text(b"the register list"),
-        _ => text(b"the bridge does not hold control bit 0"),
+        11 => text(b"the bridge does not hold control bit 0"),
+        12 => text(b"the ROM breaks a rule"),
+        _ => text(b"the ROM has no such image"),
     }
 }
 
@@ -230,6 +233,23 @@ fn record<'a>(words: &[u8], slot: &'a [u8], block: &'a [u8], record_type: u32) {
     end();
 }
 
+// An image of vendor 0x10ec and device 0x8139, in the first bytes of the two images.
+fn image(words: &[u8], bytes: usize, code_type: u32)
+    requires { ⌜ bytes ≤ 1536 ⌝ }
+{
+    text(words);
+    decimal(b" ROM ", bytes as u64);
+    text(b" bytes, vendor 0x10ec, device 0x8139");
+    decimal(b", code type ", code_type as u64);
+    let found = fixtures::search_rom(&fixtures::two_images(), bytes, 0x10ec, 0x8139, code_type);
+    came(found.number);
+    if found.number == 0 {
+        decimal(b"; start ", found.start as u64);
+        decimal(b", length ", found.size as u64);
+    }
+    end();
+}
+
 // Register values by a type 2 record in the bridge's block; the slot has no block. Device Control is register 4, Link Control 5, Uncorrectable Error Mask 0.
 fn values(words: &[u8], t: Table, s: SessionNumber, n: BridgeNumber)
     requires { ⌜ Sound t ⌝ }
@@ -366,6 +386,13 @@ fn records() {
     record(b"The slot has no block.", &none, &block, 2);
 }
 
+// A ROM with a PC-AT image, code type 0, and a UEFI image, code type 3, of 1024 bytes in all.
+fn images() {
+    image(b"The UEFI image of a replacement card.", 1024, 3);
+    image(b"An image that its ROM has not.", 1024, 1);
+    image(b"The ROM is cut short in its last image.", 1023, 0);
+}
+
 // The class's registers, its reset, and what is left to both.
 fn class_lets_go(t: Table)
     requires { ⌜ Sound t ⌝ }
@@ -398,5 +425,6 @@ fn main() {
     let t = class_is_refused(both_negotiate(begin()));
     addresses(t);
     records();
+    images();
     class_lets_go(t);
 }

@@ -7,24 +7,14 @@ use native.Mathlib.Numerals.{add-one}
 use lib.Dec.{eqb}
 use lib.ListN.{length, drop, getD, drop-of-length-le}
 use lib.Seq.{drop-cons}
-use borrow.Author.Tests.{eq-eqb, eqb-true}
+use borrow.Author.Tests.{eq-eqb}
 use Rattle.rules.specs.Numbers.{sameBytes}
+use Rattle.rules.proofs.Lists.{same-eq}
 
 -- a string is the same as itself
 same-refl : (a : List ℕ) → sameBytes a a ≡ true
 same-refl [] = refl
 same-refl (x ∷ a) = rw (eq-eqb x x refl) (same-refl a)
-
--- strings that are the same are equal
-pub same-eq : (a b : List ℕ) → sameBytes a b ≡ true → a ≡ b
-same-eq [] [] e = refl
-same-eq [] (y ∷ b) e = cc
-same-eq (x ∷ a) [] e = cc
-same-eq (x ∷ a) (y ∷ b) e = both (eqb x y) refl (same-eq a b) e
-  where
-    both : (t : Bool) → eqb x y ≡ t → (sameBytes a b ≡ true → a ≡ b) → t && sameBytes a b ≡ true → x ∷ a ≡ y ∷ b
-    both true p f q = cc (eqb-true x y p, f q)
-    both false p f q = cc
 
 -- a flag that is true just where two strings are equal is `sameBytes`
 pub same-flag : (a b : List ℕ) (r : Bool) → (r ≡ true → a ≡ b) → (a ≡ b → r ≡ true) → r ≡ sameBytes a b

@@ -7,7 +7,7 @@ ghost use Rattle.rules.specs.Numbers.{word, dword, qword, le32, sum, sameBytes}
 ghost use Rattle.words.specs.Sums.{lanesSum};
 
 // A byte, widened.
-fn wide(x: u8) -> u32
+pub fn wide(x: u8) -> u32
     ensures { λ r. ⌜ (r ≡ x) × (r < 256) ⌝ }
 {
     x as u32

@@ -1,21 +1,17 @@
 -- `hpx::find_record` meets its contract: `hands-part` of crates/walks, at the search, the function that cuts the part, and the struct. Assumes nothing.
 use mathlib.Core.Path.{_≡_, refl, ap, _∙_}
 use mathlib.Core.List.{[], _∷_}
-use Rattle.walks.proofs.Kit.{emp, id⊢, fact-use, factI, w32, named, !, whole, sub, look-in}
-use denote.Struct.Laws as LL
-use denote.Struct.Rest.{own-shut}
-use Rattle.rules.specs.Records.{deciding, findRecord, part, decidingAt, partAt}
+use Rattle.walks.proofs.Kit.{emp, id⊢, fact-use, factI, w32}
+use Rattle.rules.specs.Parts.{part, partAt}
+use Rattle.rules.specs.Records.{deciding, findRecord, decidingAt}
 use Rattle.rules.specs.declared.FoundAt.{FoundAt}
-use Rattle.rules.proofs.FoundAt as P
-use Rattle.rules.proofs.FoundAt.Laws as P′
 use Rattle.hpx.proofs.Searches.{found-fits}
 use Rattle.hpx.proofs.search as search
 use Rattle.hpx.proofs.search.Symbol as search-def
 use Rattle.hpx.proofs.search.Met as search-thm
-use Rattle.walks.proofs.Values.{number, struct}
-use Rattle.walks.proofs.Parts.{Placed, Holding, hands-part}
-use Rattle.rules.proofs.Found as S
-use Rattle.rules.proofs.Found.Laws as S′
+use Rattle.walks.proofs.Values.{number}
+use Rattle.walks.proofs.Parts.{hands-part}
+use Rattle.parts.proofs.Handing.{found-at, found}
 use Rattle.hpx.proofs.record_part as cut
 use Rattle.hpx.proofs.record_part.Symbol as cut-def
 use Rattle.hpx.proofs.record_part.Met as cut-thm
@@ -24,29 +20,10 @@ use Rattle.hpx.proofs.find_record as own
 use Rattle.hpx.proofs.find_record.Statement as stated
 use Rattle.hpx.proofs.find_record.Code as code
 
--- what the search hands back, and the struct
-abbrev found-at : Placed
-found-at = record {
-  value = struct P.the-type P′.the-laws P′.the-plain;
-  number = λ p. p .number;
-  is-number = λ p is. LL.owed P.the-type P′.the-laws p _ is .0;
-  at-first = refl;
-  read = λ 𝓤 H A W Γ l p. look-in ! 0 (sub ! 0 refl (whole !));
-}
-
-abbrev holding : Holding
-holding = record {
-  row = S.the-row;
-  ty = S′.mir (named 0);
-  made = λ α n r. record { number = n; part = r };
-  typed = λ n r fits wt. (tt, (fits, (wt, tt)));
-  shut = λ 𝓤 H A W α n r. own-shut 𝓤 H A W (S.the-type α) (S′.the-laws α) (n, (r, tt));
-}
-
 pub find-record-spec : {M : Type 1} → stated.statement M
 unfolding code.routine
 find-record-spec 𝓤 H 𝓜 𝓖 𝓡 =
-    hands-part 2 (number w32 ∷ []) found-at holding 𝓤 H 𝓜 𝓖 𝓡 (search.clauses 𝓤 H) (cut.clauses 𝓤 H) (own.clauses 𝓤 H) (λ κs (s, (b, (k, _))) p. p ≡ findRecord (s .now) (b .now) k) (λ κs a. tt) (λ κs a. tt) (λ κs a g. id⊢ 𝓤 _) (λ κs a p ws. id⊢ 𝓤 _)
+    hands-part 2 (number w32 ∷ []) found-at found 𝓤 H 𝓜 𝓖 𝓡 (search.clauses 𝓤 H) (cut.clauses 𝓤 H) (own.clauses 𝓤 H) (λ κs (s, (b, (k, _))) p. p ≡ findRecord (s .now) (b .now) k) (λ κs a. tt) (λ κs a. tt) (λ κs a g. id⊢ 𝓤 _) (λ κs a p ws. id⊢ 𝓤 _)
     (λ κs (s, (b, (k, _))) p e. factI 𝓤 _ (emp 𝓤) (rw e (found-fits (s .now) (b .now) k)))
     (λ κs (s, (b, (k, _))) g p e r ws ws′. fact-use 𝓤 _ (id⊢ 𝓤 _) (λ i. factI 𝓤 _ _ (ap (λ (x : FoundAt). x .number) e, i .0 ∙ ap (λ (x : FoundAt). part x (deciding (s .now) (b .now))) e, i .1 ∙ ap (λ (x : FoundAt). partAt x (decidingAt (s .now) (s .ptr) (b .ptr))) e)))
     code.env key.name code.function (code.unfolded 𝓤 H 𝓜 𝓡) search-def.name cut-def.name refl refl search-def.routine code.calls-hpx·search (search-thm.met 𝓤 H 𝓜 𝓖 𝓡) cut-def.routine code.calls-hpx·record-part (cut-thm.met 𝓤 H 𝓜 𝓖 𝓡)

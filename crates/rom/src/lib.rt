@@ -1,0 +1,130 @@
+// Expansion ROMs: an image taken apart, the search of the chain of images, the image as a part of the ROM.
+use rules::Found;
+use rules::FoundAt;
+use rules::Image;
+use rules::constants::MAX_ROM;
+ghost use mathlib.Core.Path.{_≡_};
+ghost use Prim.Native.Nat.{_+_, _≤_};
+ghost use lib.Dec.{ltb};
+ghost use lib.ListN.{length};
+ghost use Rattle.rules.specs.Limits.{maxRom};
+ghost use Rattle.rules.specs.Parts.{part, partAt};
+ghost use Rattle.rules.specs.Rom.{isLast, isAsked, findImage};
+ghost use Rattle.rom.specs.Images.{imageRead, choice};
+
+const SIGNATURE: [u8; 2] = *b"\x55\xaa";
+
+const STRUCTURE: [u8; 4] = *b"PCIR";
+
+// An image taken apart, or a broken chain, which is refusal 12.
+pub enum ImageRead {
+    Sound(Image),
+    Broken,
+}
+
+// The image at a byte: 26 bytes of header are there before the pointer is read, the structure's 24 before the length.
+fn read_image(rom: &[u8], at: usize) -> ImageRead
+    requires { ⌜ at ≤ length (now rom) ⌝ }
+    ensures { λ r. ⌜ r ≡ imageRead (now (rom .entry)) at ⌝ }
+{
+    if rom.len() - at < 26 {
+        return ImageRead::Broken;
+    }
+    if !words::same(&rom[at..2 + at], &SIGNATURE) {
+        return ImageRead::Broken;
+    }
+    let pointer = words::read16(rom, 24 + at) as usize;
+    if rom.len() - at < 24 + pointer {
+        return ImageRead::Broken;
+    }
+    let structure = pointer + at;
+    if !words::same(&rom[structure..4 + structure], &STRUCTURE) {
+        return ImageRead::Broken;
+    }
+    let size = 512 * (words::read16(rom, 16 + structure) as usize);
+    if size == 0 {
+        return ImageRead::Broken;
+    }
+    if rom.len() - at < size {
+        return ImageRead::Broken;
+    }
+    ImageRead::Sound(Image {
+        start: at,
+        structure,
+        size,
+    })
+}
+
+// Whether an image is the last: bit 7 of its indicator.
+fn is_last(rom: &[u8], m: Image) -> bool
+    requires { ⌜ 24 + m .structure ≤ length (now rom) ⌝ }
+    ensures { λ r. ⌜ r ≡ isLast (now (rom .entry)) m ⌝ }
+{
+    rom[21 + m.structure] / 128 % 2 == 1
+}
+
+// Whether an image is the one asked for, by its structure's own fields.
+fn is_asked(rom: &[u8], m: Image, vendor: u32, device: u32, code_type: u32) -> bool
+    requires { ⌜ 24 + m .structure ≤ length (now rom) ⌝ }
+    ensures { λ r. ⌜ r ≡ isAsked (now (rom .entry)) vendor device «code_type» m ⌝ }
+{
+    (words::read16(rom, 4 + m.structure) as u32 == vendor)
+        & (words::read16(rom, 6 + m.structure) as u32 == device)
+        & (words::wide(rom[20 + m.structure]) == code_type)
+}
+
+// The first image asked for stays what the search gives.
+fn chosen(found: FoundAt, m: Image, asked: bool) -> FoundAt
+    ensures { λ r. ⌜ r ≡ choice asked m found ⌝ }
+{
+    if asked & (found.number != 0) {
+        return FoundAt {
+            number: 0,
+            start: m.start,
+            size: m.size,
+        };
+    }
+    found
+}
+
+// Whether a ROM is too large to be sound.
+fn too_large(rom: &[u8]) -> bool
+    ensures { λ r. ⌜ r ≡ ltb maxRom (length (now (rom .entry))) ⌝ }
+{
+    MAX_ROM < rom.len()
+}
+
+// One pass over the chain: sound or not, and where the first image asked for lies. Numbers are u32, so that none is taken for a smaller one.
+pub fn search<'a>(rom: &'a [u8], vendor: u32, device: u32, code_type: u32) -> FoundAt
+    ensures { λ r. ⌜ r ≡ findImage (now (rom .entry)) vendor device «code_type» ⌝ }
+{
+    if too_large(rom) {
+        return parts::refusal(12);
+    }
+    let mut at = 0;
+    let mut found = parts::refusal(13);
+    while at < rom.len() {
+        let ImageRead::Sound(m) = read_image(rom, at) else {
+            return parts::refusal(12);
+        };
+        found = chosen(found, m, is_asked(rom, m, vendor, device, code_type));
+        if is_last(rom, m) {
+            return found;
+        }
+        at = m.size + at;
+    }
+    parts::refusal(12)
+}
+
+// The image search, with the image as a part of the ROM. The struct holds a reference, so the proof walks the code by hand.
+pub fn find_image<'a>(rom: &'a [u8], vendor: u32, device: u32, code_type: u32) -> Found<'a>
+    ensures { λ r. ⌜ (r .number ≡ findImage (now (rom .entry)) vendor device «code_type» .number)
+        × (now (r .part) ≡ part (findImage (now (rom .entry)) vendor device «code_type») (now (rom .entry)))
+        × (r .part .ptr ≡ partAt (findImage (now (rom .entry)) vendor device «code_type») (rom .entry .ptr)) ⌝ }
+{
+    let at = search(rom, vendor, device, code_type);
+    Found {
+        number: at.number,
+        part: parts::cut(rom, at),
+    }
+}
