@@ -1,8 +1,8 @@
 //! The documents in ordinary Rust: what the random trials and the timings compare with.
 //!
-//! It shares nothing with the proved program but the documents (the modules follow the sections of document 01) and the numbers of the
-//! two kinds of bridge, 0 and 1. Imports go one way: `bridge` is what the table keeps, others above it work on one bridge, and `table`
-//! is on top.
+//! It shares nothing with the proved program but the documents (the modules follow the sections of document 01; `rom` is document 02,
+//! a) and the numbers of the two kinds of bridge, 0 and 1. Imports go one way: `bridge` is what the table keeps, others above it work
+//! on one bridge, and `table` is on top.
 #![no_std]
 #![forbid(unsafe_code)]
 
@@ -16,6 +16,7 @@ mod place;
 mod records;
 mod refusal;
 mod registers;
+mod rom;
 mod rows;
 mod table;
 
@@ -25,5 +26,6 @@ pub use osc::granted;
 pub use place::Place;
 pub use records::find_record;
 pub use refusal::Refusal;
+pub use rom::find_image;
 pub use rows::BridgeRow;
 pub use table::{Holding, Table};

@@ -1,4 +1,4 @@
-//! The limits of document 01, four of them as document 02, e, has them, each named once.
+//! The limits of document 01, four of them as document 02, e, has them, and that of document 02, a, each named once.
 
 /// Most rows of a starting list, so most bridges of a table.
 pub(crate) const MAX_ROWS: usize = 64;
@@ -18,3 +18,5 @@ pub(crate) const MAX_FUNCTION: u32 = 7;
 pub(crate) const MAX_OFFSET: u32 = 4095;
 /// Highest value of a 16-bit register.
 pub(crate) const MAX_WORD: u32 = 65535;
+/// Most bytes of a ROM: 16 MiB, of document 02, a.
+pub(crate) const MAX_ROM: usize = 16 << 20;

@@ -26,10 +26,14 @@ pub enum Refusal {
     Registers = 10,
     /// The bridge does not hold Express hot plug control.
     NoHotPlug = 11,
+    /// The ROM is above 16 MiB or its chain of images is broken.
+    Rom = 12,
+    /// The chain of images has none with this vendor, device and code type.
+    NoImage = 13,
 }
 
 impl Refusal {
-    /// The number in document 01.
+    /// The number in document 01; 12 and 13 are of document 02, a.
     pub fn number(self) -> u8 {
         self as u8
     }

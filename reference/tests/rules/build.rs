@@ -162,3 +162,57 @@ pub fn express_numbers(and_mask: u32, or_mask: u32) -> [u32; 17] {
     }
     numbers
 }
+
+/// An image of a ROM: what its header and its structure say.
+#[derive(Clone, Copy)]
+pub struct Image {
+    pub pointer: u16,
+    pub vendor: u16,
+    pub device: u16,
+    /// The length in units of 512 bytes.
+    pub units: u16,
+    pub code_type: u8,
+    pub indicator: u8,
+}
+
+/// A last image of 512 bytes.
+pub const LAST: Image = Image {
+    pointer: 0x1C,
+    vendor: 0x8086,
+    device: 0x1234,
+    units: 1,
+    code_type: 3,
+    indicator: 0x80,
+};
+/// The same, but another follows.
+pub const MIDDLE: Image = Image {
+    indicator: 0,
+    ..LAST
+};
+
+impl Image {
+    /// Lays header and structure down in a ROM where the image starts at its first byte.
+    pub fn lay(&self, rom: &mut [u8]) {
+        rom[..2].copy_from_slice(&[0x55, 0xAA]);
+        rom[0x18..0x1A].copy_from_slice(&self.pointer.to_le_bytes());
+        let structure = &mut rom[usize::from(self.pointer)..][..24];
+        structure[..4].copy_from_slice(b"PCIR");
+        structure[4..6].copy_from_slice(&self.vendor.to_le_bytes());
+        structure[6..8].copy_from_slice(&self.device.to_le_bytes());
+        structure[0x10..0x12].copy_from_slice(&self.units.to_le_bytes());
+        structure[0x14] = self.code_type;
+        structure[0x15] = self.indicator;
+    }
+
+    /// The image in a ROM of this length, which it starts.
+    pub fn in_rom(&self, length: usize) -> Vec<u8> {
+        let mut rom = vec![UNTOUCHED; length];
+        self.lay(&mut rom);
+        rom
+    }
+
+    /// The image by itself.
+    pub fn bytes(&self) -> Vec<u8> {
+        self.in_rom(512 * usize::from(self.units))
+    }
+}

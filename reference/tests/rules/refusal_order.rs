@@ -1,7 +1,7 @@
 //! Refusal numbers, and which comes first when two conditions hold.
 
 use crate::build::*;
-use reference::{BridgeNumber, BridgeRow, Refusal, SessionNumber, Table};
+use reference::{BridgeNumber, BridgeRow, Refusal, SessionNumber, Table, find_image};
 
 #[test]
 fn numbers() {
@@ -17,8 +17,10 @@ fn numbers() {
         Refusal::NoRecord,
         Refusal::Registers,
         Refusal::NoHotPlug,
+        Refusal::Rom,
+        Refusal::NoImage,
     ];
-    assert!(all.map(Refusal::number).into_iter().eq(1..=11));
+    assert!(all.map(Refusal::number).into_iter().eq(1..=13));
 }
 
 #[test]
@@ -113,4 +115,17 @@ fn register_values_1_2_11_10_8_9() {
     assert_eq!(refused(&hot_plug, OWNER, BRIDGE, &unsound, &short), 10);
     assert_eq!(refused(&hot_plug, OWNER, BRIDGE, &unsound, &full), 8);
     assert_eq!(refused(&hot_plug, OWNER, BRIDGE, &sound, &full), 9);
+}
+
+#[test]
+fn rom_12_then_13() {
+    let refused = |rom: &[u8]| find_image(rom, 0, 0, 0).unwrap_err().number();
+    let sound = LAST.bytes();
+    assert_eq!(refused(&sound), 13);
+    assert_eq!(refused(&MIDDLE.bytes()), 12);
+    let mut large = sound;
+    large.resize(16_777_216, 0);
+    assert_eq!(refused(&large), 13);
+    large.push(0);
+    assert_eq!(refused(&large), 12);
 }
