@@ -2,8 +2,9 @@
  *
  * Each call gives a number first, 0 where it is done and else why it is refused (enum slipwattle_refusal). A call checks only the numbers
  * listed at it, in that order, and gives the first that applies. A refused call hands back zeros beside its number, and changes neither
- * the table nor any buffer. The numbers of a place, a width and a record type are compared whole: device 256 does not pass for device 0.
- * Session and bridge numbers and the small fields of a row are bytes: what is stored in them has been cut to a byte before it comes in.
+ * the table nor any buffer. The numbers of a place, a width, a record type, and a ROM image's vendor, device and code type are compared
+ * whole: code type 256 does not pass for code type 0. Session and bridge numbers and the small fields of a row are bytes: what is stored
+ * in them has been cut to a byte before it comes in.
  *
  * What the caller sees to, since C cannot:
  *  - A table comes only from slipwattle_start, and only these calls change it. It may be copied; its fields are not for the caller.
@@ -26,13 +27,14 @@ extern "C" {
 #endif
 
 #define SLIPWATTLE_VERSION_MAJOR 0
-#define SLIPWATTLE_VERSION_MINOR 5
+#define SLIPWATTLE_VERSION_MINOR 6
 #define SLIPWATTLE_VERSION_PATCH 0
-#define SLIPWATTLE_VERSION "0.5.0"
+#define SLIPWATTLE_VERSION "0.6.0"
 
-/* The most rows of a starting list (a table has a bridge for each), and the registers of a type 2 record. */
+/* The most rows of a starting list (a table has a bridge for each), the registers of a type 2 record, and the most bytes of a ROM. */
 #define SLIPWATTLE_MAX_ROWS 64
 #define SLIPWATTLE_REGISTERS 8
+#define SLIPWATTLE_MAX_ROM 16777216u
 
 /* The number that each call gives. */
 enum slipwattle_refusal {
@@ -58,7 +60,11 @@ enum slipwattle_refusal {
     /* the register list is not 8 numbers, or its Device Control or Link Control is above 65535 */
     SLIPWATTLE_REFUSAL_REGISTERS = 10,
     /* the bridge does not hold control bit 0, Express hot plug */
-    SLIPWATTLE_REFUSAL_NO_HOT_PLUG = 11
+    SLIPWATTLE_REFUSAL_NO_HOT_PLUG = 11,
+    /* the ROM is above 16 MiB, or its chain of images is broken before or in its last image */
+    SLIPWATTLE_REFUSAL_ROM = 12,
+    /* the ROM's chain of images has none with the asked vendor, device and code type */
+    SLIPWATTLE_REFUSAL_NO_IMAGE = 13
 };
 
 /* The number in words, for a person. */
@@ -88,6 +94,10 @@ static inline const char *slipwattle_refusal_text(int number) {
         return "the register list is not 8 numbers, or its Device Control or Link Control is above 65535";
     case SLIPWATTLE_REFUSAL_NO_HOT_PLUG:
         return "the bridge does not hold control bit 0, Express hot plug";
+    case SLIPWATTLE_REFUSAL_ROM:
+        return "the ROM is above 16 MiB, or its chain of images is broken before or in its last image";
+    case SLIPWATTLE_REFUSAL_NO_IMAGE:
+        return "the ROM's chain of images has none with the asked vendor, device and code type";
     default:
         return "no call gives this number";
     }
@@ -114,6 +124,13 @@ static const uint8_t SLIPWATTLE_OSC_UUID[16] = {0x5B, 0x4D, 0xDB, 0x33, 0xF7, 0x
 #define SLIPWATTLE_CONTROL_AER 0x08u
 #define SLIPWATTLE_CONTROL_EXPRESS_CAPABILITY 0x10u
 #define SLIPWATTLE_CONTROL_ALL 0x1Fu
+
+/* The code types of a ROM image that the PCI Firmware Specification assigns: Intel x86, PC-AT compatible; Open Firmware; Hewlett-Packard
+ * PA RISC; UEFI. The others, 4 to 255, are reserved; a call may ask for them too. */
+#define SLIPWATTLE_CODE_TYPE_PC_AT 0
+#define SLIPWATTLE_CODE_TYPE_OPEN_FIRMWARE 1
+#define SLIPWATTLE_CODE_TYPE_PA_RISC 2
+#define SLIPWATTLE_CODE_TYPE_UEFI 3
 
 /* The kind of a host bridge. A conventional one permits no control bit but SHPC hot plug. */
 enum slipwattle_kind {
@@ -240,6 +257,26 @@ typedef struct {
  *    its length, header included. The call takes no table and no session. */
 slipwattle_record slipwattle_find_record(const uint8_t *slot, size_t slot_length, const uint8_t *bridge_block, size_t bridge_block_length,
                                          uint32_t type);
+
+typedef struct {
+    uint8_t number;
+    size_t start;
+    size_t size;
+} slipwattle_image;
+
+/* Finds the first expansion ROM image with this vendor, device and code type. Refusals: 12, 13.
+ *
+ * rom: a chain of images, at most SLIPWATTLE_MAX_ROM bytes. Each starts with 0x55 0xAA, and has at 0x18 a pointer, counted from its own
+ *    start, to its structure: `PCIR`, vendor at 4, device at 6, the image's length in units of 512 bytes at 0x10, code type at 0x14, and
+ *    in byte 0x15 bit 7 where it is the last. The pointer, vendor, device and length are 2 bytes each, little-endian. The next image
+ *    starts where this one ends.
+ * vendor, device, code_type: compared with the structure's own fields; a device list does not count. Before an image is chosen the whole
+ *    chain is checked: every signature is right, every image and the 24 bytes from its structure's start lie inside the ROM, no length is
+ *    0, and one image is the last. No alignment is asked, and a structure may lie outside its image. Bytes after the last image and bits
+ *    0 to 6 of byte 0x15 are ignored.
+ * What is handed back says where the image lies: the byte of the ROM where it starts, and its length, header included. The call takes no
+ *    table and no session. */
+slipwattle_image slipwattle_find_image(const uint8_t *rom, size_t rom_length, uint32_t vendor, uint32_t device, uint32_t code_type);
 
 typedef struct {
     uint8_t number;

@@ -1,8 +1,8 @@
 //! Why a call was refused.
 use core::fmt;
 
-/// Why a call was refused. Its number is that of document 01 and of the C header. A refused call changes neither the table nor any buffer.
-/// Later calls may have refusals of their own, so a `match` has an arm for the rest.
+/// Why a call was refused. Its number is that of documents 01 and 02 and of the C header. A refused call changes neither the table nor any
+/// buffer. Later calls may have refusals of their own, so a `match` has an arm for the rest.
 ///
 /// ```
 /// use slipwattle::Refusal;
@@ -39,10 +39,14 @@ pub enum Refusal {
     Registers = 10,
     /// The bridge does not hold control bit 0.
     NoHotPlug = 11,
+    /// The ROM is above 16 MiB, or its chain of images is broken before or in its last image.
+    Rom = 12,
+    /// The ROM's chain of images has none with the asked vendor, device and code type.
+    NoImage = 13,
 }
 
 impl Refusal {
-    const ALL: [Refusal; 11] = [
+    const ALL: [Refusal; 13] = [
         Refusal::NoSuchBridge,
         Refusal::NotOwner,
         Refusal::Framing,
@@ -54,9 +58,11 @@ impl Refusal {
         Refusal::NoRecord,
         Refusal::Registers,
         Refusal::NoHotPlug,
+        Refusal::Rom,
+        Refusal::NoImage,
     ];
 
-    /// The refusal's number, 1 to 11.
+    /// The refusal's number, 1 to 13.
     pub fn number(self) -> u8 {
         self as u8
     }
@@ -84,11 +90,17 @@ impl Refusal {
                 "the register list is not 8 numbers, or its Device Control or Link Control is above 65535"
             }
             Refusal::NoHotPlug => "the bridge does not hold control bit 0, Express hot plug",
+            Refusal::Rom => {
+                "the ROM is above 16 MiB, or its chain of images is broken before or in its last image"
+            }
+            Refusal::NoImage => {
+                "the ROM's chain of images has none with the asked vendor, device and code type"
+            }
         }
     }
 }
 
-/// The refusal of a number that a call of [`sys`](crate::sys) gave. The error is the number itself, 0 or above 11.
+/// The refusal of a number that a call of [`sys`](crate::sys) gave. The error is the number itself, 0 or above 13.
 impl TryFrom<u8> for Refusal {
     type Error = u8;
 
@@ -106,7 +118,7 @@ impl fmt::Display for Refusal {
 
 impl core::error::Error for Refusal {}
 
-/// The number of a call as a result. No call gives a number above 11.
+/// The number of a call as a result. No call gives a number above 13.
 pub(crate) fn done(number: u8) -> Result<(), Refusal> {
     if number == 0 {
         return Ok(());

@@ -12,6 +12,8 @@ use core::mem::{align_of, offset_of, size_of};
 pub const MAX_ROWS: usize = 64;
 /// The registers of a type 2 record.
 pub const REGISTERS: usize = 8;
+/// The most bytes of a ROM: 16 MiB.
+pub const MAX_ROM: usize = 16_777_216;
 
 /// `slipwattle_session`.
 #[repr(C)]
@@ -159,6 +161,18 @@ pub struct RecordAt {
     pub size: usize,
 }
 
+/// `slipwattle_image`: where an image lies in the ROM.
+#[repr(C)]
+#[derive(Clone, Copy, Debug, PartialEq, Eq)]
+pub struct ImageAt {
+    /// 0 or the refusal.
+    pub number: u8,
+    /// The byte where the image starts.
+    pub start: usize,
+    /// Its length, header included.
+    pub size: usize,
+}
+
 /// `slipwattle_values`.
 #[repr(C)]
 #[derive(Clone, Copy, Debug, PartialEq, Eq)]
@@ -193,6 +207,8 @@ const _: () = {
     assert!(size_of::<Located>() == 8 && offset_of!(Located, place) == 2);
     assert!(size_of::<RecordAt>() == 24 && offset_of!(RecordAt, in_slot) == 1);
     assert!(offset_of!(RecordAt, start) == 8 && offset_of!(RecordAt, size) == 16);
+    assert!(size_of::<ImageAt>() == 24 && offset_of!(ImageAt, number) == 0);
+    assert!(offset_of!(ImageAt, start) == 8 && offset_of!(ImageAt, size) == 16);
     assert!(size_of::<Values>() == 36 && offset_of!(Values, values) == 4);
 };
 
@@ -253,6 +269,15 @@ unsafe extern "C" {
         bridge_block_length: usize,
         record_type: u32,
     ) -> RecordAt;
+
+    /// Finds the first expansion ROM image with this vendor, device and code type.
+    pub fn slipwattle_find_image(
+        rom: *const u8,
+        rom_length: usize,
+        vendor: u32,
+        device: u32,
+        code_type: u32,
+    ) -> ImageAt;
 
     /// The new register values by the type 2 record of the blocks.
     pub fn slipwattle_register_values(

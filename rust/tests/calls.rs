@@ -1,14 +1,18 @@
 //! The calls and their refusals, whose words tests/header.rs compares. What is expected is worked out from the documents.
 mod fixture;
 
+use std::ops::Range;
+
 use fixture::mcfg;
+use slipwattle::code_type::{OPEN_FIRMWARE, PA_RISC, PC_AT, UEFI};
 use slipwattle::osc::{
     CONTROL_AER, CONTROL_ALL, CONTROL_EXPRESS_CAPABILITY, CONTROL_EXPRESS_HOT_PLUG,
     CONTROL_SHPC_HOT_PLUG, OSC_COUNT, OSC_REVISION, OSC_UUID, QUERY_FLAG, STATUS_FAILURE,
     STATUS_MASKED, STATUS_UNKNOWN_REVISION, STATUS_UNKNOWN_UUID,
 };
 use slipwattle::{
-    BridgeKind, BridgeNumber, BridgeRow, Holding, Place, Refusal, SessionNumber, Table, find_record,
+    BridgeKind, BridgeNumber, BridgeRow, Holding, MAX_ROM, Place, Refusal, SessionNumber, Table,
+    find_image, find_record,
 };
 
 const CLASS: SessionNumber = SessionNumber(1);
@@ -27,6 +31,9 @@ const PLACE: Place = Place {
 };
 /// A type 1 record.
 const TYPE_1: &[u8] = &[1, 16, 0, 1, 0, 0, 0, 3, 0, 0, 0, 4, 0, 0, 0, 7, 0, 0, 0];
+/// The vendor and the device of the ROM images, which are for UEFI.
+const VENDOR: u32 = 0x1234;
+const DEVICE: u32 = 0x5678;
 
 /// An Express row of 16 buses for each owner.
 fn row(owner: u8) -> BridgeRow {
@@ -79,6 +86,47 @@ fn same_pairs(masks: [u32; 2]) -> Vec<u8> {
     let mut record = vec![2, 68, 0, 1, 0, 0, 0];
     record.extend(masks.map(u32::to_le_bytes).as_flattened().repeat(8));
     record
+}
+
+/// A ROM of so many bytes that starts with an image of so many units of 512 bytes, whose structure starts at `pointer`. It is the last.
+fn rom(length: usize, units: u16, pointer: u16) -> Vec<u8> {
+    let structure = usize::from(pointer);
+    let mut rom = vec![0; length.max(structure + 24)];
+    let mut lay_down = |at: usize, bytes: &[u8]| rom[at..][..bytes.len()].copy_from_slice(bytes);
+    lay_down(0, &[0x55, 0xAA]);
+    lay_down(0x18, &pointer.to_le_bytes());
+    lay_down(structure, b"PCIR\x34\x12\x78\x56");
+    lay_down(structure + 0x10, &units.to_le_bytes());
+    lay_down(structure + 0x14, &[3, 0x80]);
+    rom.truncate(length);
+    rom
+}
+
+/// An image of 512 bytes that is not the last, and then this one.
+fn and_then(second: Vec<u8>) -> Vec<u8> {
+    let mut first = rom(512, 1, 0x1C);
+    first[0x31] = 0;
+    [first, second].concat()
+}
+
+/// An image of 512 bytes and one of 1024. The second structure starts at 0x240.
+fn two_images() -> Vec<u8> {
+    and_then(rom(1024, 2, 0x40))
+}
+
+/// The search for the vendor, the device and UEFI.
+fn find_ours(rom: &[u8]) -> Result<&[u8], Refusal> {
+    find_image(rom, VENDOR, DEVICE, UEFI)
+}
+
+/// The search after these bytes of the ROM, each at its place, were changed: where the image lies.
+fn find_after(mut rom: Vec<u8>, edits: &[(usize, u8)]) -> Result<Range<usize>, Refusal> {
+    for &(at, byte) in edits {
+        rom[at] = byte;
+    }
+    let image = find_ours(&rom)?;
+    let start = image.as_ptr().addr() - rom.as_ptr().addr();
+    Ok(start..start + image.len())
 }
 
 #[test]
@@ -218,6 +266,113 @@ fn a_record_is_a_part_of_the_block_that_decided() {
 }
 
 #[test]
+fn an_image_is_a_part_of_the_rom() {
+    let mut rom = two_images();
+    let image = find_ours(&rom).unwrap();
+    assert_eq!(image.as_ptr_range(), rom[..512].as_ptr_range());
+    for (code_type, asked) in (0..).zip([PC_AT, OPEN_FIRMWARE, PA_RISC]) {
+        rom[0x254] = code_type;
+        let image = find_image(&rom, VENDOR, DEVICE, asked).unwrap();
+        assert_eq!(image.as_ptr_range(), rom[512..].as_ptr_range());
+    }
+}
+
+#[test]
+fn an_image_is_asked_for_by_whole_numbers() {
+    let mut rom = rom(512, 1, 0x1C);
+    // A device list, in a structure of revision 3, names 0x5679. It does not count.
+    (rom[0x24], rom[0x28]) = (0x18, 3);
+    rom[0x34..0x36].copy_from_slice(&[0x79, 0x56]);
+    let found = |(vendor, device, code_type)| find_image(&rom, vendor, device, code_type).is_ok();
+    assert!(found((VENDOR, DEVICE, UEFI)));
+    let others = [
+        (VENDOR + 1, DEVICE, UEFI),
+        (VENDOR + 0x1_0000, DEVICE, UEFI),
+        (VENDOR, DEVICE + 1, UEFI),
+        (VENDOR, DEVICE + 0x1_0000, UEFI),
+        (VENDOR, DEVICE, PA_RISC),
+        (VENDOR, DEVICE, UEFI + 256),
+    ];
+    assert_eq!(others.map(found), [false; 6]);
+}
+
+#[test]
+fn each_byte_of_an_image_counts_or_does_not() {
+    let after = |at, byte| find_after(rom(512, 1, 0x1C), &[(at, byte)]);
+    // Bits 0 to 6 of the indicator, and fields that are not looked at.
+    for (at, byte) in [(0x31, 0x81), (0x31, 0xFF), (0x26, 0xFF), (0x28, 0xFF)] {
+        assert_eq!(after(at, byte), Ok(0..512));
+    }
+    // The signatures, the pointer, the length and the last image.
+    for at in [0, 1, 0x18, 0x1C, 0x1D, 0x1E, 0x1F, 0x2C] {
+        assert_eq!(after(at, 0), Err(Refusal::Rom));
+    }
+    for (at, byte) in [(0x19, 1), (0x2C, 2), (0x2D, 1), (0x31, 0), (0x31, 0x7F)] {
+        assert_eq!(after(at, byte), Err(Refusal::Rom));
+    }
+    // The vendor, the device and the code type.
+    for at in [0x20, 0x21, 0x22, 0x23, 0x30] {
+        assert_eq!(after(at, 0), Err(Refusal::NoImage));
+    }
+}
+
+#[test]
+fn an_image_and_its_structure_lie_inside_the_rom() {
+    let found = |(length, pointer)| find_ours(&rom(length, 1, pointer)).map(<[u8]>::len);
+    let inside = [
+        (512, 0x1E8),
+        (512, 0x1A),
+        (1024, 0x200),
+        (1024, 0x3E8),
+        (65559, 0xFFFF),
+    ];
+    let outside = [
+        (0, 0x1C),
+        (0x1A, 0x1C),
+        (511, 0x1C),
+        (512, 0x1E9),
+        (1024, 0x3E9),
+        (65558, 0xFFFF),
+    ];
+    assert_eq!(inside.map(found), [Ok(512); 5]);
+    assert_eq!(outside.map(found), [Err(Refusal::Rom); 6]);
+    // The second image's pointer counts from its own start.
+    let second = |pointer| find_after(and_then(rom(512, 1, pointer)), &[(0x30, 0)]);
+    assert_eq!(second(0x1E8), Ok(512..1024));
+    assert_eq!(second(0x1E9), Err(Refusal::Rom));
+}
+
+#[test]
+fn the_whole_chain_is_checked_before_an_image_is_chosen() {
+    let after = |edits: &[(usize, u8)]| find_after(two_images(), edits);
+    let (other, other_too) = ((0x30, 0), (0x254, 0));
+    assert_eq!(after(&[]), Ok(0..512));
+    assert_eq!(after(&[other_too]), Ok(0..512));
+    assert_eq!(after(&[other]), Ok(512..1536));
+    assert_eq!(after(&[other, other_too]), Err(Refusal::NoImage));
+    // The second image: its signatures, its pointer, its length, and that it is the last.
+    let zeros = [0x200, 0x201, 0x218, 0x243, 0x250].map(|at| (at, 0));
+    for broken in zeros.into_iter().chain([(0x250, 3), (0x255, 0x7F)]) {
+        assert_eq!(after(&[broken]), Err(Refusal::Rom));
+        assert_eq!(after(&[other, broken]), Err(Refusal::Rom));
+    }
+    // What comes after the last image is not looked at.
+    let last = (0x31, 0x80);
+    assert_eq!(after(&[last, (0x200, 0)]), Ok(0..512));
+    assert_eq!(after(&[last, other]), Err(Refusal::NoImage));
+}
+
+#[test]
+fn a_rom_has_16_mib_at_most() {
+    let [most, more] = [MAX_ROM, MAX_ROM + 1].map(|length| rom(length, 0x8000, 0x1C));
+    assert_eq!(find_ours(&most).map(<[u8]>::len), Ok(16 << 20));
+    assert_eq!(find_ours(&more), Err(Refusal::Rom));
+    assert_eq!(find_ours(&most[..MAX_ROM - 1]), Err(Refusal::Rom));
+    let long = rom(MAX_ROM, 0x8001, 0x1C);
+    assert_eq!(find_ours(&long), Err(Refusal::Rom));
+}
+
+#[test]
 fn register_values_keep_the_error_registers_where_aer_is_held() {
     let current = [0x101, 0x102, 0x103, 0x104, 0x2110, 0x106, 0x107, 0x108];
     let values =
@@ -248,7 +403,7 @@ fn register_values_keep_the_payload_sizes_of_device_control() {
 }
 
 /// A call for each refusal, in the order of their numbers.
-fn refused() -> [Refusal; 11] {
+fn refused() -> [Refusal; 13] {
     let mut table = taken(HOT_PLUG);
     let mut answer = [0xAA; 12];
     let framing = table.osc(CLASS, CLASS_BRIDGE, 1, 3, &OSC_UUID, &[], &mut answer);
@@ -277,6 +432,8 @@ fn refused() -> [Refusal; 11] {
         find_record(&[], &[], 0).unwrap_err(),
         values(taken(HOT_PLUG)),
         values(taken(CONTROL_EXPRESS_CAPABILITY)),
+        find_ours(&[]).unwrap_err(),
+        find_image(&two_images(), VENDOR, DEVICE, PC_AT).unwrap_err(),
     ]
 }
 
@@ -287,7 +444,7 @@ fn each_refusal_has_its_number() {
         assert_eq!(Refusal::try_from(number), Ok(refusal));
     }
     assert_eq!(Refusal::try_from(0), Err(0));
-    assert_eq!(Refusal::try_from(12), Err(12));
+    assert_eq!(Refusal::try_from(14), Err(14));
 }
 
 #[test]

@@ -1,9 +1,9 @@
 //! include/slipwattle.h and this crate name the same: numbers, texts, the UUID, the version.
 use std::collections::BTreeMap;
 
+use slipwattle::code_type::*;
 use slipwattle::osc::*;
-use slipwattle::sys::{MAX_ROWS, REGISTERS};
-use slipwattle::{BridgeKind, Refusal};
+use slipwattle::{BridgeKind, MAX_ROM, MAX_ROWS, REGISTERS, Refusal};
 
 const HEADER: &str = include_str!("../../include/slipwattle.h");
 
@@ -41,6 +41,23 @@ macro_rules! by_name {
     ($($name:ident),*) => { [$((stringify!($name), $name)),*] };
 }
 
+/// The numbers of `osc`.
+const OSC: [(&str, u32); 13] = by_name![
+    OSC_REVISION,
+    OSC_COUNT,
+    QUERY_FLAG,
+    STATUS_FAILURE,
+    STATUS_UNKNOWN_UUID,
+    STATUS_UNKNOWN_REVISION,
+    STATUS_MASKED,
+    CONTROL_EXPRESS_HOT_PLUG,
+    CONTROL_SHPC_HOT_PLUG,
+    CONTROL_PME,
+    CONTROL_AER,
+    CONTROL_EXPRESS_CAPABILITY,
+    CONTROL_ALL
+];
+
 /// The numbers of this crate by the names that they have in the header.
 fn numbers() -> BTreeMap<String, u32> {
     let version = |part: &str| part.parse().unwrap();
@@ -50,30 +67,18 @@ fn numbers() -> BTreeMap<String, u32> {
         ("VERSION_PATCH", version(env!("CARGO_PKG_VERSION_PATCH"))),
         ("MAX_ROWS", MAX_ROWS as u32),
         ("REGISTERS", REGISTERS as u32),
+        ("MAX_ROM", MAX_ROM as u32),
         ("DONE", 0),
         ("KIND_EXPRESS", BridgeKind::Express as u32),
         ("KIND_CONVENTIONAL", BridgeKind::Conventional as u32),
     ];
-    let osc = by_name![
-        OSC_REVISION,
-        OSC_COUNT,
-        QUERY_FLAG,
-        STATUS_FAILURE,
-        STATUS_UNKNOWN_UUID,
-        STATUS_UNKNOWN_REVISION,
-        STATUS_MASKED,
-        CONTROL_EXPRESS_HOT_PLUG,
-        CONTROL_SHPC_HOT_PLUG,
-        CONTROL_PME,
-        CONTROL_AER,
-        CONTROL_EXPRESS_CAPABILITY,
-        CONTROL_ALL
-    ];
+    let code_types = by_name![PC_AT, OPEN_FIRMWARE, PA_RISC, UEFI];
+    let code_types = code_types.map(|(name, number)| (format!("CODE_TYPE_{name}"), number));
     let refusals = refusals().into_iter();
     let refusals = refusals.map(|(name, refusal)| (name, refusal.number().into()));
-    let constants = others.into_iter().chain(osc);
+    let constants = others.into_iter().chain(OSC);
     let constants = constants.map(|(name, number)| (name.to_owned(), number));
-    constants.chain(refusals).collect()
+    constants.chain(code_types).chain(refusals).collect()
 }
 
 #[test]

@@ -1,5 +1,5 @@
-/* The eight calls from C: numbers, results, buffers and tables as include/slipwattle.h promises them, on either side of the limits of rows, framing, places, buses
- * and the register list.
+/* The nine calls from C: numbers, results, buffers and tables as include/slipwattle.h promises them, on either side of the limits of rows, framing, places, buses,
+ * ROMs and the register list.
  * Compiled as C11 and as C++17. What is expected is worked out from the documents. */
 #include <assert.h>
 #include <stdio.h>
@@ -70,6 +70,10 @@ AT(slipwattle_record, number, 0);
 AT(slipwattle_record, in_slot, 1);
 AT(slipwattle_record, start, 8);
 AT(slipwattle_record, size, 16);
+SIZE(slipwattle_image, 24);
+AT(slipwattle_image, number, 0);
+AT(slipwattle_image, start, 8);
+AT(slipwattle_image, size, 16);
 SIZE(slipwattle_values, 36);
 AT(slipwattle_values, number, 0);
 AT(slipwattle_values, values, 4);
@@ -79,6 +83,11 @@ static_assert(SLIPWATTLE_CONTROL_EXPRESS_HOT_PLUG == 1u << 0 && SLIPWATTLE_CONTR
 static_assert(SLIPWATTLE_CONTROL_PME == 1u << 2 && SLIPWATTLE_CONTROL_AER == 1u << 3, "PME, AER");
 static_assert(SLIPWATTLE_CONTROL_EXPRESS_CAPABILITY == 1u << 4 && SLIPWATTLE_CONTROL_ALL == (1u << 5) - 1, "the capability structure, all");
 static_assert(SLIPWATTLE_QUERY_FLAG == 1u << 0, "the query flag");
+
+/* The code types by their numbers in document 000, and 16 MiB. */
+static_assert(SLIPWATTLE_CODE_TYPE_PC_AT == 0 && SLIPWATTLE_CODE_TYPE_OPEN_FIRMWARE == 1, "PC-AT, Open Firmware");
+static_assert(SLIPWATTLE_CODE_TYPE_PA_RISC == 2 && SLIPWATTLE_CODE_TYPE_UEFI == 3, "PA RISC, UEFI");
+static_assert(SLIPWATTLE_MAX_ROM == 16u * 1024 * 1024, "16 MiB");
 
 /* What register values need. */
 #define HOT_PLUG (SLIPWATTLE_CONTROL_EXPRESS_HOT_PLUG | SLIPWATTLE_CONTROL_EXPRESS_CAPABILITY)
@@ -123,7 +132,7 @@ static bool same_table(const slipwattle_table *a, const slipwattle_table *b) {
 
 /* A buffer of its own for what is lent, so that a checker of memory sees its end. */
 static void *lend(const void *bytes, size_t length) {
-    void *copy = malloc(length > 0 ? length : 1);
+    void *copy = calloc(length > 0 ? length : 1, 1);
     if (copy == NULL) {
         exit(2);
     }
@@ -458,6 +467,180 @@ static void finds_records_in_4096_bytes(void) {
     CHECK(r.number == 8 && !r.in_slot && r.start == 0 && r.size == 0);
 }
 
+/* An image by hand, of so many units of 512 bytes: vendor 0x1234, device 0x5678, UEFI. The indicator 0x80 makes it the last. */
+static void write_image(uint8_t *image, size_t pointer, size_t units, uint8_t indicator) {
+    static const uint8_t names[8] = {'P', 'C', 'I', 'R', 0x34, 0x12, 0x78, 0x56};
+    uint8_t *structure = image + pointer;
+    image[0] = 0x55;
+    image[1] = 0xAA;
+    image[0x18] = (uint8_t)(pointer % 256);
+    image[0x19] = (uint8_t)(pointer / 256);
+    memcpy(structure, names, sizeof names);
+    structure[0x10] = (uint8_t)(units % 256);
+    structure[0x11] = (uint8_t)(units / 256);
+    structure[0x14] = SLIPWATTLE_CODE_TYPE_UEFI;
+    structure[0x15] = indicator;
+}
+
+/* The ROM stays as it was, and a refused call hands back zeros. */
+static slipwattle_image find_image(const uint8_t *rom, size_t length, uint32_t vendor, uint32_t device, uint32_t code_type) {
+    uint8_t *lent = (uint8_t *)lend(rom, length);
+    slipwattle_image i = slipwattle_find_image(lent, length, vendor, device, code_type);
+    CHECK(memcmp(lent, rom, length) == 0);
+    CHECK(i.number == 0 || (i.start == 0 && i.size == 0));
+    free(lent);
+    return i;
+}
+
+/* Whether asking for what write_image writes gives this number, or with 0 an image of size bytes at start. */
+static bool gives(const uint8_t *rom, size_t length, unsigned number, size_t start, size_t size) {
+    slipwattle_image i = find_image(rom, length, 0x1234, 0x5678, SLIPWATTLE_CODE_TYPE_UEFI);
+    return i.number == number && (number != 0 || (i.start == start && i.size == size));
+}
+
+static void judges_each_byte_of_an_image(void) {
+    static const uint8_t lines[33][3] = {
+        /* at, byte, number; the structure starts at 0x1C */
+        {0x00, 0x55, 0},  {0x00, 0x54, 12}, {0x00, 0xAA, 12}, {0x01, 0xAB, 12}, {0x01, 0x55, 12}, {0x02, 0xFF, 0},  {0x18, 0x00, 12},
+        {0x18, 0x1B, 12}, {0x18, 0x1D, 12}, {0x19, 0x01, 12}, {0x1C, 'p', 12},  {0x1D, 'c', 12},  {0x1E, 'i', 12},  {0x1F, 'r', 12},
+        {0x20, 0x35, 13}, {0x21, 0x13, 13}, {0x22, 0x79, 13}, {0x23, 0x57, 13}, {0x24, 0xFF, 0},  {0x26, 0xFF, 0},  {0x28, 0xFF, 0},
+        {0x29, 0xFF, 0},  {0x2C, 0x00, 12}, {0x2C, 0x02, 12}, {0x2D, 0x01, 12}, {0x2D, 0x80, 12}, {0x30, 0x02, 13}, {0x30, 0x83, 13},
+        {0x31, 0x00, 12}, {0x31, 0x7F, 12}, {0x31, 0x81, 0},  {0x31, 0xFF, 0},  {0x32, 0xFF, 0},
+    };
+    uint8_t rom[512];
+    size_t k;
+    for (k = 0; k < 33; k++) {
+        memset(rom, 0, sizeof rom);
+        write_image(rom, 0x1C, 1, 0x80);
+        rom[lines[k][0]] = lines[k][1];
+        CHECK(gives(rom, 512, lines[k][2], 0, 512));
+    }
+}
+
+/* An image and the 24 bytes from its structure's start, which may lie outside the image and at an odd byte. */
+static void images_lie_inside_the_rom(void) {
+    static const uint32_t lines[18][3] = {
+        /* length of the ROM, pointer, number */
+        {512, 0x1E8, 0},  {512, 0x1E9, 12}, {512, 0x1FF, 12}, {512, 0x200, 12},  {512, 0x02, 0},     {512, 0x1A, 0},
+        {1024, 0x1E9, 0}, {1024, 0x200, 0}, {1024, 0x3E8, 0}, {1024, 0x3E9, 12}, {65559, 0xFFFF, 0}, {65558, 0xFFFF, 12},
+        {511, 0x1C, 12},  {0x34, 0x1C, 12}, {0x1A, 0x1C, 12}, {0x19, 0x1C, 12},  {1, 0x1C, 12},      {0, 0x1C, 12},
+    };
+    static uint8_t rom[65559];
+    slipwattle_image i = slipwattle_find_image(NULL, 0, 0x1234, 0x5678, SLIPWATTLE_CODE_TYPE_UEFI);
+    size_t k;
+    CHECK(i.number == 12 && i.start == 0 && i.size == 0);
+    for (k = 0; k < 18; k++) {
+        memset(rom, 0, sizeof rom);
+        write_image(rom, lines[k][1], 1, 0x80);
+        CHECK(gives(rom, lines[k][0], lines[k][2], 0, 512));
+    }
+}
+
+static void compares_what_is_asked_whole(void) {
+    static const uint32_t others[10][3] = {
+        {0x1235, 0x5678, 3}, {0x11234, 0x5678, 3}, {0x3412, 0x5678, 3}, {0x1234, 0x5679, 3},   {0x1234, 0x15678, 3},
+        {0x1234, 0x7856, 3}, {0x5678, 0x1234, 3},  {0x1234, 0x5678, 2}, {0x1234, 0x5678, 259}, {0x1234, 0x5678, 0x80000003u},
+    };
+    static const uint8_t types[6] = {0, 1, 2, 3, 4, 255};
+    uint8_t rom[512] = {0};
+    size_t k;
+    write_image(rom, 0x1C, 1, 0x80);
+    for (k = 0; k < 10; k++) {
+        CHECK(find_image(rom, 512, others[k][0], others[k][1], others[k][2]).number == 13);
+    }
+    /* A device list, in a structure of revision 3, names 0x5679. */
+    rom[0x24] = 0x18;
+    rom[0x28] = 3;
+    rom[0x34] = 0x79;
+    rom[0x35] = 0x56;
+    for (k = 0; k < 6; k++) {
+        rom[0x30] = types[k];
+        CHECK(find_image(rom, 512, 0x1234, 0x5678, types[k]).number == 0);
+        CHECK(find_image(rom, 512, 0x1234, 0x5679, types[k]).number == 13);
+        CHECK(find_image(rom, 512, 0x1234, 0x5678, types[k] + 256u).number == 13);
+    }
+    memset(rom + 0x20, 0xFF, 4);
+    CHECK(find_image(rom, 512, 0xFFFF, 0xFFFF, 255).number == 0);
+    CHECK(find_image(rom, 512, 0xFFFFFFFFu, 0xFFFF, 255).number == 13);
+    CHECK(find_image(rom, 512, 0xFFFF, 0xFFFFFFFFu, 255).number == 13);
+}
+
+/* An image of 512 bytes and one of 1024, the last, both for the same; then 64 bytes more. The structures start at 0x1C and 0x240. */
+static void write_two_images(uint8_t rom[1600]) {
+    memset(rom, 0, 1536);
+    memset(rom + 1536, 0xFF, 64);
+    write_image(rom, 0x1C, 1, 0);
+    write_image(rom + 512, 0x40, 2, 0x80);
+}
+
+static void checks_the_chain_before_it_chooses(void) {
+    static const uint16_t lines[20][7] = {
+        /* at, byte, at, byte, number, start, size: the first image */
+        {0x00, 0x55, 0x200, 0x55, 0, 0, 512}, {0x00, 0x55, 0x254, 0, 0, 0, 512}, {0x31, 0x7F, 0x255, 0xFF, 0, 0, 512},
+        /* the second */
+        {0x20, 0, 0x200, 0x55, 0, 512, 1024}, {0x22, 0, 0x200, 0x55, 0, 512, 1024}, {0x30, 0, 0x250, 1, 0, 512, 512},
+        /* the second is broken, whether or not the first matches */
+        {0x00, 0x55, 0x200, 0, 12, 0, 0}, {0x00, 0x55, 0x201, 0, 12, 0, 0}, {0x00, 0x55, 0x218, 0x41, 12, 0, 0},
+        {0x00, 0x55, 0x243, 0, 12, 0, 0}, {0x00, 0x55, 0x250, 0, 12, 0, 0}, {0x00, 0x55, 0x250, 3, 12, 0, 0},
+        {0x00, 0x55, 0x255, 0x7F, 12, 0, 0}, {0x30, 0, 0x250, 0, 12, 0, 0}, {0x30, 0, 0x255, 0, 12, 0, 0},
+        /* the first leads to no second, or is the last */
+        {0x2C, 2, 0x200, 0x55, 12, 0, 0}, {0x2C, 3, 0x200, 0x55, 12, 0, 0}, {0x31, 0x80, 0x200, 0, 0, 0, 512},
+        /* none matches, though one after the last does */
+        {0x30, 0, 0x254, 0, 13, 0, 0}, {0x30, 0, 0x31, 0x80, 13, 0, 0},
+    };
+    uint8_t rom[1600];
+    size_t k;
+    for (k = 0; k < 20; k++) {
+        write_two_images(rom);
+        rom[lines[k][0]] = (uint8_t)lines[k][1];
+        rom[lines[k][2]] = (uint8_t)lines[k][3];
+        CHECK(gives(rom, 1536, lines[k][4], lines[k][5], lines[k][6]));
+    }
+}
+
+static void ends_with_the_last_image(void) {
+    uint8_t rom[1600];
+    write_two_images(rom);
+    CHECK(gives(rom, 512, 12, 0, 0));
+    CHECK(gives(rom, 1535, 12, 0, 0));
+    CHECK(gives(rom, 1536, 0, 0, 512));
+    CHECK(gives(rom, 1537, 0, 0, 512));
+    CHECK(gives(rom, 1600, 0, 0, 512));
+    /* The second pointer counts from the second image's start. */
+    write_image(rom + 512, 0x3E8, 2, 0x80);
+    CHECK(gives(rom, 1536, 0, 0, 512));
+    write_image(rom + 512, 0x3E9, 2, 0x80);
+    CHECK(gives(rom, 1536, 12, 0, 0));
+}
+
+static void finds_images_in_16_mib(void) {
+    const size_t most = SLIPWATTLE_MAX_ROM, last = most - 512;
+    uint8_t *rom = (uint8_t *)calloc(most + 1, 1);
+    slipwattle_image i;
+    size_t at;
+    if (rom == NULL) {
+        exit(2);
+    }
+    write_image(rom, 0x1C, 0x8000, 0x80);
+    CHECK(gives(rom, most, 0, 0, 16777216));
+    CHECK(gives(rom, most - 1, 12, 0, 0));
+    CHECK(gives(rom, most + 1, 12, 0, 0));
+    write_image(rom, 0x1C, 0x8001, 0x80);
+    CHECK(gives(rom, most, 12, 0, 0));
+    /* As many images as there is room for; the last alone is for PC-AT. */
+    for (at = 0; at < most; at += 512) {
+        write_image(rom + at, 0x1C, 1, 0);
+    }
+    CHECK(gives(rom, most, 12, 0, 0));
+    rom[last + 0x30] = SLIPWATTLE_CODE_TYPE_PC_AT;
+    rom[last + 0x31] = 0x80;
+    i = find_image(rom, most, 0x1234, 0x5678, SLIPWATTLE_CODE_TYPE_PC_AT);
+    CHECK(i.number == 0 && i.start == last && i.size == 512);
+    CHECK(find_image(rom, most, 0x1234, 0x5678, SLIPWATTLE_CODE_TYPE_PA_RISC).number == 13);
+    CHECK(find_image(rom, most + 1, 0x1234, 0x5678, SLIPWATTLE_CODE_TYPE_PA_RISC).number == 12);
+    free(rom);
+}
+
 static void computes_register_values(slipwattle_table *t) {
     uint8_t settings[71], answer[12];
     uint32_t current[9] = {1, 2, 3, 4, 0x2110, 6, 7, 8, 9};
@@ -512,9 +695,9 @@ static void keeps_payload_sizes(const slipwattle_table *t) {
 }
 
 static void has_a_text_for_each_number(void) {
-    const char *none = slipwattle_refusal_text(12);
+    const char *none = slipwattle_refusal_text(14);
     int n, other;
-    for (n = SLIPWATTLE_DONE; n <= 12; n++) {
+    for (n = SLIPWATTLE_DONE; n <= 14; n++) {
         CHECK(slipwattle_refusal_text(n)[0] != '\0');
         for (other = SLIPWATTLE_DONE; other < n; other++) {
             CHECK(strcmp(slipwattle_refusal_text(n), slipwattle_refusal_text(other)) != 0);
@@ -545,6 +728,12 @@ int main(void) {
     places_are_refused_in_order(&s.table);
     finds_records();
     finds_records_in_4096_bytes();
+    judges_each_byte_of_an_image();
+    images_lie_inside_the_rom();
+    compares_what_is_asked_whole();
+    checks_the_chain_before_it_chooses();
+    ends_with_the_last_image();
+    finds_images_in_16_mib();
     computes_register_values(&s.table);
     keeps_payload_sizes(&s.table);
     has_a_text_for_each_number();
