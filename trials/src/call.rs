@@ -44,11 +44,12 @@ calls! {
     Address { session: u8, bridge: u8, bus: u32, device: u32, function: u32, offset: u32, width: u32 }
     Locate { session: u8, address: u64 }
     FindRecord { slot: Bytes, bridge_block: Bytes, record_type: u32 }
+    FindImage { rom: Bytes, vendor: u32, device: u32, code_type: u32 }
     RegisterValues { session: u8, bridge: u8, slot: Bytes, bridge_block: Bytes, current: Words }
 }
 
 /// The names of the calls, in the order of `Call::kind`.
-pub const KINDS: [&str; 8] = [
+pub const KINDS: [&str; 9] = [
     "start",
     "osc",
     "reset",
@@ -56,11 +57,12 @@ pub const KINDS: [&str; 8] = [
     "address",
     "locate",
     "find_record",
+    "find_image",
     "register_values",
 ];
 
-/// The numbers that document 01 lists for each call, in the order of `KINDS`.
-pub const LISTED: [&[usize]; 8] = [
+/// The numbers that documents 01 and 02 list for each call, in the order of `KINDS`.
+pub const LISTED: [&[usize]; 9] = [
     &[0, 6, 7],
     &[0, 1, 2, 3],
     &[0, 1, 2],
@@ -68,6 +70,7 @@ pub const LISTED: [&[usize]; 8] = [
     &[0, 1, 2, 5, 4],
     &[0, 4],
     &[0, 8, 9],
+    &[0, 12, 13],
     &[0, 1, 2, 11, 10, 8, 9],
 ];
 
@@ -81,7 +84,8 @@ impl Call {
             Call::Address(_) => 4,
             Call::Locate(_) => 5,
             Call::FindRecord(_) => 6,
-            Call::RegisterValues(_) => 7,
+            Call::FindImage(_) => 7,
+            Call::RegisterValues(_) => 8,
         }
     }
 

@@ -3,17 +3,18 @@
 use std::fmt;
 
 use crate::blocks::{self, DEVICE_CONTROL, PAYLOAD_SIZES};
-use crate::call::{Call, KINDS, LISTED, Osc, RegisterValues};
+use crate::call::{Call, FindImage, KINDS, LISTED, Osc, RegisterValues};
 use crate::comparison::Agreed;
 use crate::given::Handed;
+use crate::roms;
 
-const NUMBERS: usize = 12;
+const NUMBERS: usize = 14;
 /// A run of this many calls must give every listed number of every call at least `LEAST` times.
 pub const FULL_RUN: u64 = 200_000;
 pub const LEAST: u64 = 1_000;
 
 /// What is counted beside the numbers.
-const ANSWERS: [&str; 12] = [
+const ANSWERS: [&str; 16] = [
     "_OSC status 0x00",
     "_OSC status 0x02",
     "_OSC status 0x04",
@@ -26,6 +27,10 @@ const ANSWERS: [&str; 12] = [
     "register values with AER held",
     "register values without AER",
     "payload sizes kept",
+    "image, the first of its ROM",
+    "image behind another",
+    "image, another match behind it",
+    "ROM broken behind a match",
 ];
 const AER: u32 = 1 << 3;
 
@@ -42,8 +47,10 @@ impl Counts {
 
     pub fn note(&mut self, agreed: &Agreed) {
         self.numbers[agreed.call.kind()][usize::from(agreed.given.number)] += 1;
-        if agreed.given.number == 0 {
-            self.note_answer(agreed);
+        match (agreed.given.number, agreed.call) {
+            (0, _) => self.note_answer(agreed),
+            (12, Call::FindImage(call)) => self.answers[15] += u64::from(matches(call) > 0),
+            _ => {}
         }
     }
 
@@ -58,6 +65,10 @@ impl Counts {
                 let aer = matches!(report, Handed::Holding { held, .. } if held & AER != 0);
                 self.answers[if aer { 9 } else { 10 }] += 1;
                 self.answers[11] += u64::from(asks_for_other_sizes(call));
+            }
+            (Call::FindImage(call), Handed::Image { start, .. }) => {
+                self.answers[if start == 0 { 12 } else { 13 }] += 1;
+                self.answers[14] += u64::from(matches(call) > 1);
             }
             _ => {}
         }
@@ -101,6 +112,14 @@ fn asks_for_other_sizes(call: &RegisterValues) -> bool {
     let [and_mask, or_mask] = blocks::masks(slot, bridge_block, DEVICE_CONTROL);
     let current = call.current.lent()[DEVICE_CONTROL];
     (((current & and_mask) | or_mask) ^ current) & PAYLOAD_SIZES != 0
+}
+
+/// How many images of the ROM have the asked fields, as far as its chain is sound.
+fn matches(call: &FindImage) -> usize {
+    let asked = [call.vendor, call.device, call.code_type];
+    let images = roms::images(call.rom.lent());
+    let matching = images.iter().filter(|image| image.fields() == asked);
+    matching.count()
 }
 
 impl fmt::Display for Counts {

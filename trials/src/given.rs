@@ -33,6 +33,10 @@ pub enum Handed {
         start: usize,
         length: usize,
     },
+    Image {
+        start: usize,
+        length: usize,
+    },
     Values([u32; 8]),
 }
 
@@ -56,6 +60,10 @@ impl Handed {
             },
             Call::FindRecord(_) => Handed::Record {
                 in_slot: false,
+                start: 0,
+                length: 0,
+            },
+            Call::FindImage(_) => Handed::Image {
                 start: 0,
                 length: 0,
             },

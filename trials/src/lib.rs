@@ -15,6 +15,7 @@ pub mod print;
 pub mod random;
 pub mod random_trials;
 pub mod requests;
+pub mod roms;
 pub mod row;
 pub mod rows;
 pub mod service;

@@ -6,6 +6,7 @@ use crate::mcfg::{self, Entry, MOST_ENTRIES};
 use crate::places;
 use crate::random::Random;
 use crate::requests;
+use crate::roms;
 use crate::row::Row;
 use crate::rows::{self, HIGHEST_OWNER, MOST_ROWS};
 
@@ -80,13 +81,14 @@ impl Plan {
 
     fn next_call(&mut self, random: &mut Random) -> Call {
         let (session, bridge) = self.names(random);
-        match random.below(32) {
-            0..8 => requests::any_call(random, session, bridge).into(),
-            8..10 => Reset { session, bridge }.into(),
-            10..12 => Report { session, bridge }.into(),
-            12..16 => self.address(random, session, bridge),
-            16..19 => self.locate(random, session),
-            19..22 => find_record(random),
+        match random.below(38) {
+            0..10 => requests::any_call(random, session, bridge).into(),
+            10..12 => Reset { session, bridge }.into(),
+            12..14 => Report { session, bridge }.into(),
+            14..18 => self.address(random, session, bridge),
+            18..21 => self.locate(random, session),
+            21..24 => find_record(random),
+            24..27 => roms::any_search(random).into(),
             _ => register_values(random, session, bridge),
         }
     }

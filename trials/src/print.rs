@@ -47,8 +47,11 @@ impl Display for Shown<'_> {
 
 fn show_bytes(f: &mut fmt::Formatter<'_>, bytes: &[u8]) -> fmt::Result {
     write!(f, "({} bytes)", bytes.len())?;
-    for byte in bytes {
-        write!(f, " {byte:02X}")?;
+    for run in bytes.chunk_by(|a, b| a == b) {
+        match run {
+            [byte, ..] if run.len() > 8 => write!(f, " {byte:02X} ({} times)", run.len())?,
+            _ => run.iter().try_for_each(|byte| write!(f, " {byte:02X}"))?,
+        }
     }
     Ok(())
 }

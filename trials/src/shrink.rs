@@ -1,17 +1,21 @@
 //! The shortest list that shows a difference.
 
+use std::iter;
 use std::rc::Rc;
 
 use crate::blocks;
 use crate::call::{Call, Start};
 use crate::mcfg;
 use crate::part::Part;
+use crate::roms::{self, HEADER, Image, LAST, UNIT};
 
 /// Smaller is simpler: calls, then lent numbers, then numbers that are not 0, then the sum of them.
 type Size = (usize, usize, usize, u128);
 
 /// Lists that are tried at most, so that a difference is told in the end.
 const MOST_TRIES: usize = 200_000;
+/// A list that lends more is told as it is.
+const MOST_LENT: usize = 1 << 20;
 
 fn size(list: &[Call]) -> Size {
     let (mut lent, mut not_zero, mut sum) = (0, 0, 0);
@@ -29,6 +33,10 @@ fn size(list: &[Call]) -> Size {
 /// Takes calls, rows, entries and bytes away and makes numbers smaller, as long as the list still differs.
 pub fn shrink(list: &[Call], differs: &mut dyn FnMut(&[Call]) -> bool) -> Vec<Call> {
     let mut best = list.to_vec();
+    let (_, lent, _, _) = size(list);
+    if lent > MOST_LENT {
+        return best;
+    }
     let mut tries = 0;
     let differs = &mut |list: &[Call]| {
         tries += 1;
@@ -184,19 +192,77 @@ fn fewer_fields(block: Rc<[u64]>) -> impl Iterator<Item = Vec<u64>> {
     fields.map(move |field| [&block[..field.start], &block[field.end..]].concat())
 }
 
+/// ROMs with one image less, or with one shorter.
+fn simpler_roms(rom: Rc<[u64]>) -> impl Iterator<Item = Vec<u64>> {
+    let bytes: Vec<u8> = rom.iter().map(|number| *number as u8).collect();
+    let images = roms::images(&bytes);
+    let simpler = (0..images.len()).flat_map(move |index| {
+        [
+            without_image(&bytes, &images, index),
+            with_plain_image(&bytes, images[index]),
+            with_shorter_image(&bytes, images[index]),
+        ]
+    });
+    simpler.map(|rom| rom.into_iter().map(u64::from).collect())
+}
+
+/// The ROM without an image. Where it was the last, now the one before it is.
+fn without_image(rom: &[u8], images: &[Image], index: usize) -> Vec<u8> {
+    let image = images[index];
+    let mut fewer = [&rom[..image.start], &rom[image.end()..]].concat();
+    if let Some(before) = images[..index].last() {
+        let indicator = before.indicator | (image.indicator & LAST);
+        let before = Image {
+            indicator,
+            ..*before
+        };
+        before.write(&mut fewer);
+    }
+    fewer
+}
+
+/// The ROM with an image of 512 bytes whose structure stands behind its header, and zeros in the rest.
+fn with_plain_image(rom: &[u8], image: Image) -> Vec<u8> {
+    let mut plain = [&rom[..image.start], &[0; UNIT], &rom[image.end()..]].concat();
+    let image = Image {
+        pointer: HEADER as u16,
+        units: 1,
+        ..image
+    };
+    image.write(&mut plain);
+    plain
+}
+
+/// The ROM with 512 bytes less behind the header of an image. A structure beyond them keeps its distance to the image's end.
+fn with_shorter_image(rom: &[u8], image: Image) -> Vec<u8> {
+    let behind = image.start + HEADER;
+    let mut shorter = [&rom[..behind], &rom[rom.len().min(behind + UNIT)..]].concat();
+    let pointer = match usize::from(image.pointer) {
+        far if far >= HEADER + UNIT => far - UNIT,
+        near => near,
+    };
+    let image = Image {
+        pointer: pointer as u16,
+        units: image.units - 1,
+        ..image
+    };
+    image.write(&mut shorter);
+    shorter
+}
+
 /// Calls like this one with the argument of this index simpler.
 fn simpler_part(call: &Call, index: usize) -> impl Iterator<Item = Call> {
     let mut original = call.clone();
     let (name, part) = &original.parts()[index];
     let numbers: Rc<[u64]> = part.numbers().into();
-    let is_block = matches!(*name, "slot" | "bridge_block");
-    let fewer = is_block.then(|| fewer_fields(numbers.clone()));
+    let fewer: Box<dyn Iterator<Item = Vec<u64>>> = match *name {
+        "slot" | "bridge_block" => Box::new(fewer_fields(numbers.clone())),
+        "rom" => Box::new(simpler_roms(numbers.clone())),
+        _ => Box::new(iter::empty()),
+    };
     let is_buffer = part.is_buffer();
     let shorter = is_buffer.then(|| shorter(numbers.clone()).chain(zero_runs(numbers.clone())));
-    let simpler = fewer
-        .into_iter()
-        .flatten()
-        .chain(shorter.into_iter().flatten());
+    let simpler = fewer.chain(shorter.into_iter().flatten());
     simpler.chain(smaller_numbers(numbers)).map(move |numbers| {
         let mut changed = call.clone();
         changed.parts()[index].1.set_numbers(&numbers);

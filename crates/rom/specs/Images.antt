@@ -1,9 +1,10 @@
 -- Document 02, a: what the parts of the walk answer.
-use Prim.Native.Nat.{ℕ}
-use mathlib.Core.Bool.{Bool, not, cond, _&&_}
+use Prim.Native.Nat.{ℕ, _/_}
+use mathlib.Core.Bool.{Bool, cond}
 use mathlib.Core.List.{List}
-use lib.Dec.{eqb}
-use Rattle.rules.specs.Rom.{imageAt, imageSound, imagePart}
+use lib.ListN.{length}
+use Rattle.rules.specs.Parts.{refused}
+use Rattle.rules.specs.Rom.{imageAt, imagesFrom, imageSound, soundImages, imagePart}
 use Rattle.rules.specs.declared.FoundAt.{FoundAt}
 use Rattle.rules.specs.declared.Image.{Image}
 use Rattle.rom.specs.declared.ImageRead.{ImageRead}
@@ -13,6 +14,10 @@ use Rattle.rom.specs.declared.ImageRead.the-variants.{Sound, Broken}
 abbrev pub imageRead : List ℕ → ℕ → ImageRead
 imageRead l i = cond (imageSound l (imageAt l i)) (Sound (imageAt l i)) Broken
 
--- an image asked for is what the search gives, unless one was found before it
-abbrev pub choice : (asked : Bool) → Image → FoundAt → FoundAt
-choice asked m found = cond (asked && not (eqb (found .number) 0)) (imagePart m) found
+-- the chain from byte i on is sound
+unfoldable pub chainSound : List ℕ → ℕ → Bool
+chainSound l i = soundImages l (imagesFrom (length l / 512) l i)
+
+-- an image that was asked for, by whether the chain is sound; else 12
+abbrev pub chosenIf : (sound : Bool) → Image → FoundAt
+chosenIf sound m = cond sound (imagePart m) (refused 12)

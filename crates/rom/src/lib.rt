@@ -4,15 +4,17 @@ use rules::FoundAt;
 use rules::Image;
 use rules::constants::MAX_ROM;
 ghost use mathlib.Core.Path.{_≡_};
+ghost use mathlib.Core.Bool.{_||_};
 ghost use Prim.Native.Nat.{_+_, _≤_};
 ghost use lib.Dec.{ltb};
 ghost use lib.ListN.{length};
 ghost use Rattle.rules.specs.Limits.{maxRom};
 ghost use Rattle.rules.specs.Parts.{part, partAt};
-ghost use Rattle.rules.specs.Rom.{isLast, isAsked, findImage};
-ghost use Rattle.rom.specs.Images.{imageRead, choice};
+ghost use Rattle.rules.specs.Rom.{isLast, isAsked, imagePart, findImage};
+ghost use Rattle.rom.specs.Images.{imageRead, chainSound, chosenIf};
 
-const SIGNATURE: [u8; 2] = *b"\x55\xaa";
+// 0x55 0xAA as a number, and the letters of a structure.
+const SIGNATURE: u16 = 0xaa55;
 
 const STRUCTURE: [u8; 4] = *b"PCIR";
 
@@ -22,15 +24,12 @@ pub enum ImageRead {
     Broken,
 }
 
-// The image at a byte: 26 bytes of header are there before the pointer is read, the structure's 24 before the length.
+// The image at a byte, where its header is whole; the structure's 24 bytes are there before the length is read.
 fn read_image(rom: &[u8], at: usize) -> ImageRead
-    requires { ⌜ at ≤ length (now rom) ⌝ }
+    requires { ⌜ 26 + at ≤ length (now rom) ⌝ }
     ensures { λ r. ⌜ r ≡ imageRead (now (rom .entry)) at ⌝ }
 {
-    if rom.len() - at < 26 {
-        return ImageRead::Broken;
-    }
-    if !words::same(&rom[at..2 + at], &SIGNATURE) {
+    if words::read16(rom, at) != SIGNATURE {
         return ImageRead::Broken;
     }
     let pointer = words::read16(rom, 24 + at) as usize;
@@ -63,28 +62,57 @@ fn is_last(rom: &[u8], m: Image) -> bool
     rom[21 + m.structure] / 128 % 2 == 1
 }
 
-// Whether an image is the one asked for, by its structure's own fields.
+// Whether an image is the one asked for, by its structure's own fields; the code type first, in which the images of one card differ.
 fn is_asked(rom: &[u8], m: Image, vendor: u32, device: u32, code_type: u32) -> bool
     requires { ⌜ 24 + m .structure ≤ length (now rom) ⌝ }
     ensures { λ r. ⌜ r ≡ isAsked (now (rom .entry)) vendor device «code_type» m ⌝ }
 {
-    (words::read16(rom, 4 + m.structure) as u32 == vendor)
+    (words::wide(rom[20 + m.structure]) == code_type)
+        & (words::read16(rom, 4 + m.structure) as u32 == vendor)
         & (words::read16(rom, 6 + m.structure) as u32 == device)
-        & (words::wide(rom[20 + m.structure]) == code_type)
 }
 
-// The first image asked for stays what the search gives.
-fn chosen(found: FoundAt, m: Image, asked: bool) -> FoundAt
-    ensures { λ r. ⌜ r ≡ choice asked m found ⌝ }
+// Whether the chain from a byte on leads to a last image, each image sound.
+fn chain_sound(rom: &[u8], from: usize) -> bool
+    requires { ⌜ from ≤ length (now rom) ⌝ }
+    ensures { λ r. ⌜ r ≡ chainSound (now (rom .entry)) from ⌝ }
 {
-    if asked & (found.number != 0) {
-        return FoundAt {
-            number: 0,
-            start: m.start,
-            size: m.size,
+    let mut at = from;
+    while 26 <= rom.len() - at {
+        let ImageRead::Sound(m) = read_image(rom, at) else {
+            return false;
         };
+        if is_last(rom, m) {
+            return true;
+        }
+        at = m.size + at;
     }
-    found
+    false
+}
+
+// The image, header included.
+fn whole(m: Image) -> FoundAt
+    ensures { λ r. ⌜ r ≡ imagePart m ⌝ }
+{
+    FoundAt {
+        number: 0,
+        start: m.start,
+        size: m.size,
+    }
+}
+
+// An image that was asked for, where it is the last or the chain behind it is sound; else 12.
+fn chosen(rom: &[u8], m: Image) -> FoundAt
+    requires { ⌜ (24 + m .structure ≤ length (now rom)) × (m .size + m .start ≤ length (now rom)) ⌝ }
+    ensures { λ r. ⌜ r ≡ chosenIf (isLast (now (rom .entry)) m || chainSound (now (rom .entry)) (m .size + m .start)) m ⌝ }
+{
+    if is_last(rom, m) {
+        return whole(m);
+    }
+    if !chain_sound(rom, m.size + m.start) {
+        return parts::refusal(12);
+    }
+    whole(m)
 }
 
 // Whether a ROM is too large to be sound.
@@ -94,7 +122,7 @@ fn too_large(rom: &[u8]) -> bool
     MAX_ROM < rom.len()
 }
 
-// One pass over the chain: sound or not, and where the first image asked for lies. Numbers are u32, so that none is taken for a smaller one.
+// One pass over the chain: to the first image asked for, then on to the last. Numbers are u32, so that none is taken for a smaller one.
 pub fn search<'a>(rom: &'a [u8], vendor: u32, device: u32, code_type: u32) -> FoundAt
     ensures { λ r. ⌜ r ≡ findImage (now (rom .entry)) vendor device «code_type» ⌝ }
 {
@@ -102,14 +130,15 @@ pub fn search<'a>(rom: &'a [u8], vendor: u32, device: u32, code_type: u32) -> Fo
         return parts::refusal(12);
     }
     let mut at = 0;
-    let mut found = parts::refusal(13);
-    while at < rom.len() {
+    while 26 <= rom.len() - at {
         let ImageRead::Sound(m) = read_image(rom, at) else {
             return parts::refusal(12);
         };
-        found = chosen(found, m, is_asked(rom, m, vendor, device, code_type));
+        if is_asked(rom, m, vendor, device, code_type) {
+            return chosen(rom, m);
+        }
         if is_last(rom, m) {
-            return found;
+            return parts::refusal(13);
         }
         at = m.size + at;
     }

@@ -16,7 +16,7 @@ use Rattle.rules.specs.Parts.{partBy}
 use Rattle.rules.specs.Refusals.{_if_, firstOf}
 use Rattle.rules.specs.Rom.{imageSignature, structureSignature, structureAt, imageAt, isLast, imagesFrom, imagesOf, imageSound, soundImages, romSound, isAsked, imageAmong, imageIn, imageRefusals, imagePart, Chain, last, next}
 use Rattle.rules.specs.Claims.{ImagePart, SoundChain}
-use Rattle.rules.proofs.Tests.{and-true, and-is}
+use Rattle.rules.proofs.Tests.{and-true, and-is, same-test}
 use Rattle.rules.proofs.Refusals.{clear}
 use Rattle.rules.proofs.Lists.{same-eq}
 use Rattle.rules.specs.declared.Image.{Image}
@@ -90,6 +90,17 @@ from-chain (suc n) l i r (next {r = k} s e c) h =
 
 pub enough : (n : ℕ) → n < 512 + (512 * (n / 512) + 0)
 enough n = omega arith
+
+-- whether there is a chain does not depend on the bound
+pub any-bound : (l : List ℕ) (i n k : ℕ) → length l < 512 + (512 * n + i) → length l < 512 + (512 * k + i)
+    → soundImages l (imagesFrom n l i) ≡ soundImages l (imagesFrom k l i)
+any-bound l i n k h j = same-test (soundImages l (imagesFrom n l i)) (soundImages l (imagesFrom k l i)) (over n k j (imagesFrom n l i) refl) (over k n h (imagesFrom k l i) refl)
+  where
+    over : (n k : ℕ) → length l < 512 + (512 * k + i) → (o : Option (List Image)) → imagesFrom n l i ≡ o → soundImages l o ≡ true → soundImages l (imagesFrom k l i) ≡ true
+    over n k j none e s = absurd (true≢false (sym s))
+    over n k j (some r) e s =
+        let t = from-chain k l i r (to-chain n l i r e s) j in
+        ap (soundImages l) (t .0) ∙ t .1
 
 pub sound-chain : SoundChain
 unfolding romSound imagesOf

@@ -4,6 +4,7 @@ mod blocks;
 pub mod granting;
 mod places;
 pub mod registers;
+pub mod roms;
 mod starts;
 pub mod sums;
 
@@ -17,7 +18,7 @@ use crate::service::Pair;
 /// The name of each comparison, and the comparison: the count of its calls, or a difference in words.
 type Comparison = (&'static str, fn(fn() -> Pair) -> Result<u64, String>);
 
-const COMPARISONS: [Comparison; 14] = [
+const COMPARISONS: [Comparison; 22] = [
     (
         "every offset with every width, and numbers beyond",
         places::offsets_and_widths,
@@ -70,6 +71,32 @@ const COMPARISONS: [Comparison; 14] = [
     (
         "every bit of every register, set or not in its value and in each mask, among 0s and among 1s",
         registers::bits,
+    ),
+    (
+        "every byte of a ROM of 2 images changed to every value",
+        roms::changed_bytes,
+    ),
+    ("a ROM of 1 to 6 images cut at every byte", roms::cut_roms),
+    (
+        "every pointer of an image, with the structure there",
+        roms::pointers,
+    ),
+    (
+        "pointers beside every power of two, in a ROM of 64 KiB",
+        roms::far_pointers,
+    ),
+    (
+        "every length of the first of 8 images, the last of its ROM or not",
+        roms::lengths,
+    ),
+    ("every two indicators of 2 images", roms::indicators),
+    (
+        "a ROM of 16 MiB, a byte less and a byte more, in 1 image; in 32,768 images and one more",
+        roms::sizes,
+    ),
+    (
+        "every vendor, device and code type of a byte, and those of 3 images with every bit flipped",
+        roms::asked,
     ),
 ];
 

@@ -7,7 +7,9 @@ use slipwattle::sys::{self, BridgeNumber, SessionNumber};
 
 use super::Service;
 use crate::buffer::{Buffer, Item};
-use crate::call::{Address, Call, FindRecord, Locate, Osc, RegisterValues, Report, Reset, Start};
+use crate::call::{
+    Address, Call, FindImage, FindRecord, Locate, Osc, RegisterValues, Report, Reset, Start,
+};
 use crate::given::{Given, Handed};
 use crate::row::Row;
 
@@ -111,6 +113,7 @@ impl Service for Boundary {
             Call::Address(call) => self.address(call),
             Call::Locate(call) => self.locate(call),
             Call::FindRecord(call) => find_record(call),
+            Call::FindImage(call) => find_image(call),
             Call::RegisterValues(call) => self.register_values(call),
         };
         Given { number, handed }
@@ -222,6 +225,24 @@ fn find_record(call: &FindRecord) -> (u8, Handed) {
     };
     let handed = Handed::Record {
         in_slot: found.in_slot,
+        start: found.start,
+        length: found.size,
+    };
+    (found.number, handed)
+}
+
+fn find_image(call: &FindImage) -> (u8, Handed) {
+    // SAFETY: the pointer leads to its length of bytes.
+    let found = unsafe {
+        sys::slipwattle_find_image(
+            pointer(&call.rom),
+            length(&call.rom),
+            call.vendor,
+            call.device,
+            call.code_type,
+        )
+    };
+    let handed = Handed::Image {
         start: found.start,
         length: found.size,
     };

@@ -40,6 +40,7 @@ macro_rules! program {
                     Call::Address(call) => address(&self.table, call).map(Handed::Address),
                     Call::Locate(call) => self.locate(call),
                     Call::FindRecord(call) => find_record(call),
+                    Call::FindImage(call) => find_image(call),
                     Call::RegisterValues(call) => self.register_values(call),
                 }
             }
@@ -104,7 +105,13 @@ macro_rules! program {
         fn find_record(call: &FindRecord) -> Result<Handed, Refusal> {
             let (slot, bridge_block) = (call.slot.lent(), call.bridge_block.lent());
             let record = $package::find_record(slot, bridge_block, call.record_type)?;
-            Ok(position(record, slot, bridge_block))
+            Ok(record_position(record, slot, bridge_block))
+        }
+
+        fn find_image(call: &FindImage) -> Result<Handed, Refusal> {
+            let rom = call.rom.lent();
+            let image = $package::find_image(rom, call.vendor, call.device, call.code_type)?;
+            Ok(image_position(image, rom))
         }
 
         impl Default for $program {
@@ -117,17 +124,27 @@ macro_rules! program {
 
 pub(super) use program;
 
-/// Where the record lies, by its address. A record in neither block starts at `usize::MAX`.
-pub(super) fn position(record: &[u8], slot: &[u8], bridge_block: &[u8]) -> Handed {
-    let within = |block: &[u8]| {
-        let start = record.as_ptr().addr().wrapping_sub(block.as_ptr().addr());
-        (start < block.len() && record.len() <= block.len() - start).then_some(start)
-    };
-    let in_slot = within(slot).is_some();
-    let start = within(slot).or(within(bridge_block)).unwrap_or(usize::MAX);
+/// Where the part starts in what was lent, by its address.
+fn start_within(part: &[u8], lent: &[u8]) -> Option<usize> {
+    let start = part.as_ptr().addr().wrapping_sub(lent.as_ptr().addr());
+    (start < lent.len() && part.len() <= lent.len() - start).then_some(start)
+}
+
+/// Where the record lies. A record in neither block starts at `usize::MAX`.
+pub(super) fn record_position(record: &[u8], slot: &[u8], bridge_block: &[u8]) -> Handed {
+    let within_slot = start_within(record, slot);
+    let start = within_slot.or(start_within(record, bridge_block));
     Handed::Record {
-        in_slot,
-        start,
+        in_slot: within_slot.is_some(),
+        start: start.unwrap_or(usize::MAX),
         length: record.len(),
+    }
+}
+
+/// Where the image lies. An image outside the ROM starts at `usize::MAX`.
+pub(super) fn image_position(image: &[u8], rom: &[u8]) -> Handed {
+    Handed::Image {
+        start: start_within(image, rom).unwrap_or(usize::MAX),
+        length: image.len(),
     }
 }

@@ -3,8 +3,10 @@
 use reference::BridgeRow;
 
 use super::Service;
-use super::program::{position, program};
-use crate::call::{Address, Call, FindRecord, Locate, Osc, RegisterValues, Report, Reset, Start};
+use super::program::{image_position, program, record_position};
+use crate::call::{
+    Address, Call, FindImage, FindRecord, Locate, Osc, RegisterValues, Report, Reset, Start,
+};
 use crate::given::{Given, Handed};
 use crate::row::Row;
 

@@ -3,6 +3,7 @@
 use trials::buffer::GUARD;
 use trials::call::Call;
 use trials::given::Given;
+use trials::roms::UNIT;
 use trials::service::Service;
 
 use crate::wrong::{Wrong, found, pair, short_names};
@@ -71,6 +72,25 @@ fn an_unused_byte_written_in_a_row() {
         panic!("{}", found.report());
     };
     assert_eq!(start.rows.lent()[0].numbers(), [0, 0, 0, 0, 0, 0, 1]);
+}
+
+fn changes_a_rom(wrong: &mut Wrong, call: &mut Call) -> Given {
+    let given = wrong.reference.call(call);
+    if let (0, Call::FindImage(search)) = (given.number, call)
+        && let Some(byte) = search.rom.lent_mut().last_mut()
+    {
+        *byte = !*byte;
+    }
+    given
+}
+
+#[test]
+fn a_byte_changed_in_a_rom() {
+    let found = found(|| pair(changes_a_rom));
+    let [Call::FindImage(search)] = &found.list[..] else {
+        panic!("{}", found.report());
+    };
+    assert_eq!(search.rom.lent().len(), UNIT);
 }
 
 fn panics_without_a_record(wrong: &mut Wrong, call: &mut Call) -> Given {

@@ -8,6 +8,7 @@ mod limits;
 mod misread;
 mod misread_starts;
 mod narrowed;
+mod roms;
 mod sessions;
 mod sizes;
 mod sums;

@@ -56,15 +56,19 @@ pub fn instead(wrong: &mut Wrong, call: &mut Call, change: fn(&mut Call)) -> Giv
     given
 }
 
-/// The shortest list that shows the wrong rule.
-pub fn found(make: fn() -> Pair) -> Box<Found> {
+/// Random trials; the error is the shortest list that shows a wrong rule.
+pub fn tried(make: fn() -> Pair) -> Result<(), Box<Found>> {
     let setting = Setting {
         seed: 1,
         calls: 100_000,
         exact: false,
     };
-    let result = random_trials::run(&setting, &[make], &mut Counts::default());
-    result.expect_err("the wrong program is found")
+    random_trials::run(&setting, &[make], &mut Counts::default())
+}
+
+/// The shortest list that shows the wrong rule.
+pub fn found(make: fn() -> Pair) -> Box<Found> {
+    tried(make).expect_err("the wrong program is found")
 }
 
 /// The names of the calls; a start has one entry and one row.

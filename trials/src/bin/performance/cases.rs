@@ -11,9 +11,15 @@ use crate::inputs::{
     rows, session, tables, their_rows, type_2,
 };
 use crate::requests::{Request, our_osc, tables_that_hold, taking, their_osc};
+use crate::roms;
 
 /// What is done with each case: the proved library's call and the reference's.
 pub trait Runner {
+    /// Whether anything is done with this case; else its inputs need not be made.
+    fn wants(&self, _: &str) -> bool {
+        true
+    }
+
     fn case<A, B>(
         &mut self,
         name: &'static str,
@@ -41,6 +47,7 @@ pub fn all(run: &mut impl Runner) {
         63,
     );
     records(run);
+    roms::images(run);
     register_values(run, "register values, AER held, 71 bytes", 0x1F, &type_2());
     register_values(
         run,

@@ -1,13 +1,14 @@
 //! The instructions of one call, counted by callgrind.
 //!
-//! callgrind counts all that a program does. So it runs this program twice for each case and side: once it makes `CALLS` calls, once
-//! twice as many. What the second run has more are the instructions of `CALLS` calls.
+//! callgrind counts all that a program does. So it runs this program twice for each case and side: once it makes some calls, once twice as
+//! many. What the second run has more are the instructions of these calls.
 
 use std::env;
 use std::process::Command;
 
 use crate::cases::{self, Runner};
 use crate::million;
+use crate::roms::LONGEST;
 use crate::timing::repeat;
 
 /// The first argument of a run that makes calls and nothing else; the case, the side and the number of calls follow.
@@ -27,6 +28,10 @@ struct Making<'a> {
 }
 
 impl Runner for Making<'_> {
+    fn wants(&self, name: &str) -> bool {
+        self.case == name
+    }
+
     fn case<A, B>(
         &mut self,
         name: &'static str,
@@ -34,8 +39,8 @@ impl Runner for Making<'_> {
         mut theirs: impl FnMut() -> B,
     ) {
         match self.side {
-            OURS if self.case == name => repeat(self.calls, &mut ours),
-            THEIRS if self.case == name => repeat(self.calls, &mut theirs),
+            OURS if self.wants(name) => repeat(self.calls, &mut ours),
+            THEIRS if self.wants(name) => repeat(self.calls, &mut theirs),
             _ => {}
         }
     }
@@ -68,8 +73,10 @@ pub fn instructions<'a>(cases: impl Iterator<Item = &'a str>) -> Option<Vec<[u64
 
 /// The instructions of a call with the loop around it.
 fn per_call(case: &str, side: &str) -> Option<u64> {
-    let more = counted(case, side, 2 * CALLS)?.checked_sub(counted(case, side, CALLS)?)?;
-    Some((more + CALLS / 2) / CALLS)
+    // A long call needs no mean of many.
+    let calls = if case == LONGEST { 1 } else { CALLS };
+    let more = counted(case, side, 2 * calls)?.checked_sub(counted(case, side, calls)?)?;
+    Some((more + calls / 2) / calls)
 }
 
 /// What callgrind counts of a run that makes so many calls.

@@ -8,6 +8,7 @@ mod document;
 mod inputs;
 mod million;
 mod requests;
+mod roms;
 mod sums;
 mod timing;
 

@@ -46,7 +46,7 @@ fn turn<A>(calls: u32, call: &mut impl FnMut() -> A) -> f64 {
 
 /// How many calls fill a turn.
 fn calls_in_a_turn<A>(call: &mut impl FnMut() -> A) -> u32 {
-    let mut calls = 64;
+    let mut calls = 1;
     while turn(calls, call) * f64::from(calls) < TURN.as_nanos() as f64 {
         calls *= 2;
     }
