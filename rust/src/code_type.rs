@@ -1,5 +1,5 @@
-//! The code types that [`find_image`](crate::find_image) may be asked for, as the PCI Firmware Specification assigns them. Each has the
-//! name that it has in the C header, without `SLIPWATTLE_CODE_TYPE_`. The others, 4 to 255, are reserved.
+//! The code types that the PCI Firmware Specification assigns, for [`find_image`](crate::find_image). Each has the name that it has in the
+//! C header, without `SLIPWATTLE_CODE_TYPE_`. The others, 4 to 255, are reserved; the call may be asked for them too.
 
 /// Intel x86, PC-AT compatible.
 pub const PC_AT: u32 = 0;

@@ -192,7 +192,7 @@ fn fewer_fields(block: Rc<[u64]>) -> impl Iterator<Item = Vec<u64>> {
     fields.map(move |field| [&block[..field.start], &block[field.end..]].concat())
 }
 
-/// ROMs with one image less, or with one shorter.
+/// ROMs with one image less, with one shorter, or with one made plain.
 fn simpler_roms(rom: Rc<[u64]>) -> impl Iterator<Item = Vec<u64>> {
     let bytes: Vec<u8> = rom.iter().map(|number| *number as u8).collect();
     let images = roms::images(&bytes);

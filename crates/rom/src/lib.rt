@@ -62,7 +62,7 @@ fn is_last(rom: &[u8], m: Image) -> bool
     rom[21 + m.structure] / 128 % 2 == 1
 }
 
-// Whether an image is the one asked for, by its structure's own fields; the code type first, in which the images of one card differ.
+// Whether an image is the one asked for, by its structure's own fields, in the order in which the compiler tests them: the images of one card differ in the code type.
 fn is_asked(rom: &[u8], m: Image, vendor: u32, device: u32, code_type: u32) -> bool
     requires { ⌜ 24 + m .structure ≤ length (now rom) ⌝ }
     ensures { λ r. ⌜ r ≡ isAsked (now (rom .entry)) vendor device «code_type» m ⌝ }

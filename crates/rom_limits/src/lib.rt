@@ -43,7 +43,7 @@ fn lent(bytes: usize, code_type: u32)
     search(&fixtures::two_images(), bytes, 0x10ec, 0x8139, code_type);
 }
 
-// One image, the last, with this pointer, in so many bytes.
+// One image, the last, with this pointer.
 fn one_image(pointer: usize) -> [u8; ROM_ROOM]
     requires { ⌜ pointer ≤ 1508 ⌝ }
 {
@@ -52,6 +52,7 @@ fn one_image(pointer: usize) -> [u8; ROM_ROOM]
     rom
 }
 
+// The same in so many bytes.
 fn pointer(pointer: usize, bytes: usize)
     requires { ⌜ (pointer ≤ 1508) × (bytes ≤ 1536) ⌝ }
 {

@@ -84,10 +84,10 @@ start-refused : (k : ℕ) (x : StartInput) → (k ≡ 0 → ⊥) → startBy k x
 start-refused zero x r = absurd (r refl)
 start-refused (suc k) x r = refl
 
-part-refused : {A : Type 0} (p : A → FoundAt) → ((x : A) → p x .number ≡ 0) → (k : ℕ) (o : Option A) → (partBy p k o .number ≡ 0 → ⊥) → partBy p k o .size ≡ 0
-part-refused p z zero none r = refl
+part-refused : {A : Type 0} (p : A → FoundAt) → ((x : A) → p x .number ≡ 0) → (k : ℕ) (o : Option A) → (partBy p k o .number ≡ 0 → ⊥) → (partBy p k o .start ≡ 0) × (partBy p k o .size ≡ 0)
+part-refused p z zero none r = (refl, refl)
 part-refused p z zero (some x) r = absurd (r (z x))
-part-refused p z (suc k) o r = refl
+part-refused p z (suc k) o r = (refl, refl)
 
 pub refused-changes-nothing : RefusedChangesNothing
 unfolding startTable

@@ -54,8 +54,9 @@ RefusedChangesNothing =
     ((t : Table) (c : Call) → (step t c .outcome .number ≡ 0 → ⊥)
     → (step t c .table ≡ t) × (step t c .outcome .result ≡ zerosOf c) × (step t c .outcome .left ≡ lentTo c))
     × ((x : StartInput) → (startNumber x ≡ 0 → ⊥) → startTable x ≡ tableOf [])
-    × ((slot block : List ℕ) (type : ℕ) → (findRecord slot block type .number ≡ 0 → ⊥) → findRecord slot block type .size ≡ 0)
-    × ((rom : List ℕ) (vendor device codeType : ℕ) → (findImage rom vendor device codeType .number ≡ 0 → ⊥) → findImage rom vendor device codeType .size ≡ 0)
+    × ((slot block : List ℕ) (type : ℕ) → (findRecord slot block type .number ≡ 0 → ⊥) → (findRecord slot block type .start ≡ 0) × (findRecord slot block type .size ≡ 0))
+    × ((rom : List ℕ) (vendor device codeType : ℕ) → (findImage rom vendor device codeType .number ≡ 0 → ⊥)
+    → (findImage rom vendor device codeType .start ≡ 0) × (findImage rom vendor device codeType .size ≡ 0))
 
 -- "a full answer buffer": a call leaves every lent buffer as long as it was
 abbrev pub BuffersKeepLength : Type 0
@@ -69,7 +70,7 @@ RecordPart = (slot block : List ℕ) (type : ℕ)
     f .number ≡ 0
     → (f .start + f .size ≤ length l) × (byte l (f .start) ≡ type) × (f .size ≡ 3 + word l (1 + f .start)) × (dword l (3 + f .start) ≡ 1)
 
--- document 02, a: "the first image with the asked vendor, device and code type (its structure's own fields ..) as a part of the ROM", header included
+-- document 02, a: an image "with the asked vendor, device and code type (its structure's own fields ..) as a part of the ROM", header included; that it is the first is `imageAmong`
 abbrev pub ImagePart : Type 0
 ImagePart = (rom : List ℕ) (vendor device codeType : ℕ)
     → let f : FoundAt = findImage rom vendor device codeType in

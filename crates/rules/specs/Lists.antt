@@ -1,4 +1,4 @@
--- Tests over lists, and positions in them.
+-- Tests over lists, positions in them, and lists that a walk makes.
 use Prim.Native.Nat.{ℕ, zero, suc}
 use mathlib.Core.Bool.{Bool, true, false, cond, _&&_}
 use mathlib.Core.List.{List, [], _∷_}

@@ -1,11 +1,11 @@
--- Document 01, "Record blocks and register values": what a search of lent bytes gives, its number and a part of them.
+-- Document 01, "Record blocks and register values", and document 02, a: what a search of lent bytes gives, its number and a part of them.
 use Prim.Native.Nat.{ℕ, zero, suc, _+_}
 use mathlib.Core.List.{List}
 use mathlib.Core.Option.{Option, none, some}
 use lib.ListN.{take, drop}
 use Rattle.rules.specs.declared.FoundAt.{FoundAt}
 
--- "A refused call hands back zeros (or the empty part) beside its number"
+-- "Refusal numbers": "A refused call hands back zeros (or the empty part) beside its number"
 abbrev pub refused : ℕ → FoundAt
 refused k = record { number = k; start = 0; size = 0 }
 

@@ -109,11 +109,13 @@ refused t c k g = (
 pub refused-start : (x : StartInput) (k : ℕ) → GivenBy (suc k) (startRefusals x) → startTable x ≡ tableOf []
 refused-start x k g = all-claims .refused-changes-nothing .1 x (not-zero (startNumber x) k (exactly-start x (suc k) .1 g))
 
-pub refused-search : (slot block : List ℕ) (type k : ℕ) → GivenBy (suc k) (recordRefusals slot block type) → findRecord slot block type .size ≡ 0
+pub refused-search : (slot block : List ℕ) (type k : ℕ) → GivenBy (suc k) (recordRefusals slot block type)
+    → (findRecord slot block type .start ≡ 0) × (findRecord slot block type .size ≡ 0)
 refused-search slot block type k g =
     all-claims .refused-changes-nothing .2 slot block type (not-zero (findRecord slot block type .number) k (exactly-search slot block type (suc k) .1 g))
 
-pub refused-image : (rom : List ℕ) (vendor device codeType k : ℕ) → GivenBy (suc k) (imageRefusals rom vendor device codeType) → findImage rom vendor device codeType .size ≡ 0
+pub refused-image : (rom : List ℕ) (vendor device codeType k : ℕ) → GivenBy (suc k) (imageRefusals rom vendor device codeType)
+    → (findImage rom vendor device codeType .start ≡ 0) × (findImage rom vendor device codeType .size ≡ 0)
 refused-image rom vendor device codeType k g =
     all-claims .refused-changes-nothing .3 rom vendor device codeType
     (not-zero (findImage rom vendor device codeType .number) k (exactly-image rom vendor device codeType (suc k) .1 g))

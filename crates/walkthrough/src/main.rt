@@ -31,7 +31,7 @@ fn end() {
     text(b".\n");
 }
 
-// The documents' words for a refusal number.
+// A refusal number in short words.
 fn refusal(number: u8) {
     match number {
         1 => text(b"the bridge number is not in the table"),

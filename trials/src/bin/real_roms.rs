@@ -1,11 +1,13 @@
 //! Real expansion ROMs: every file of the folders that are its arguments. For each the library and the reference give the same, whichever
-//! card and code type is asked for, and when the file is cut or a byte of a header or a structure is changed. A file that is named after a
-//! card has that card's images.
+//! card and code type is asked for, and when the file is cut. A file that `CARDS` names has that card's images, and both give the same when
+//! a byte of their headers and structures is changed.
 use std::error::Error;
 use std::fs;
 use std::ops::Range;
 use std::path::PathBuf;
 use std::process::ExitCode;
+
+use slipwattle::code_type::{PC_AT, UEFI};
 
 /// A vendor and a device.
 type Card = (u32, u32);
@@ -36,8 +38,6 @@ const CARDS: [(&str, Card); 21] = [
 ];
 /// What else is asked of a ROM: a card that none of the files has.
 const OTHER: Card = (0x10EC, 0x8168);
-const PC_AT: u32 = 0;
-const UEFI: u32 = 3;
 
 /// The refusal's number, or where the image lies in the ROM.
 type Found = Result<Range<usize>, u8>;
@@ -112,8 +112,8 @@ fn named_images(stem: &str, card: Option<Card>, rom: &[u8]) -> Result<Vec<Range<
     Ok(images)
 }
 
-/// Every card and code types 0 to 4; then for its own card the ROM cut around each unit of 512 bytes, and each of the 64 bytes from an
-/// image's start changed to every value.
+/// Every card and code types 0 to 4; then for its own card the ROM cut around each unit of 512 bytes, and each byte of an image's header and
+/// structure changed to every value.
 fn same_in(rom: &mut [u8], card: Card, images: &[Range<usize>]) -> Result<usize, String> {
     let mut calls = 0;
     for other in CARDS.iter().map(|(_, card)| *card).chain([OTHER]) {
@@ -124,10 +124,9 @@ fn same_in(rom: &mut [u8], card: Card, images: &[Range<usize>]) -> Result<usize,
     for length in (0..=rom.len()).filter(|length| (length + 1) % 512 < 3) {
         calls += same(&rom[..length], card, PC_AT)?;
     }
-    for at in images
-        .iter()
-        .flat_map(|image| image.start..image.start + 64)
-    {
+    let starts = images.iter().map(|image| image.start);
+    let judged: Vec<usize> = starts.flat_map(|start| judged_bytes(rom, start)).collect();
+    for at in judged {
         let before = rom[at];
         for value in 0..=u8::MAX {
             rom[at] = value;
@@ -136,6 +135,13 @@ fn same_in(rom: &mut [u8], card: Card, images: &[Range<usize>]) -> Result<usize,
         rom[at] = before;
     }
     Ok(calls)
+}
+
+/// The header of the image that starts here, and the 24 bytes from its structure's start.
+fn judged_bytes(rom: &[u8], start: usize) -> impl Iterator<Item = usize> + use<> {
+    let pointer = u16::from_le_bytes([rom[start + 0x18], rom[start + 0x19]]);
+    let structure = start + usize::from(pointer);
+    (start..start + 0x1A).chain(structure..structure + 24)
 }
 
 /// One call of each.
@@ -152,17 +158,17 @@ fn same(rom: &[u8], card: Card, code_type: u32) -> Result<usize, String> {
 
 fn library(rom: &[u8], (vendor, device): Card, code_type: u32) -> Found {
     let found = slipwattle::find_image(rom, vendor, device, code_type);
-    let found = found.map(|image| position(rom, image));
-    found.map_err(|refusal| refusal.number())
+    position(rom, found.map_err(|refusal| refusal.number()))
 }
 
 fn second(rom: &[u8], (vendor, device): Card, code_type: u32) -> Found {
     let found = reference::find_image(rom, vendor, device, code_type);
-    let found = found.map(|image| position(rom, image));
-    found.map_err(|refusal| refusal.number())
+    position(rom, found.map_err(|refusal| refusal.number()))
 }
 
-fn position(rom: &[u8], image: &[u8]) -> Range<usize> {
-    let start = image.as_ptr().addr() - rom.as_ptr().addr();
-    start..start + image.len()
+/// The part by where it lies in the ROM; one outside it is no range of the ROM.
+fn position(rom: &[u8], found: Result<&[u8], u8>) -> Found {
+    let image = found?;
+    let start = image.as_ptr().addr().wrapping_sub(rom.as_ptr().addr());
+    Ok(start..start.wrapping_add(image.len()))
 }

@@ -82,7 +82,7 @@ const COMPARISONS: [Comparison; 22] = [
         roms::pointers,
     ),
     (
-        "pointers beside every power of two, in a ROM of 64 KiB",
+        "pointers beside every power of two from 32 on, in a ROM just above 64 KiB",
         roms::far_pointers,
     ),
     (
