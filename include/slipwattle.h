@@ -2,15 +2,15 @@
  *
  * Each call gives a number first, 0 where it is done and else why it is refused (enum slipwattle_refusal). A call checks only the numbers
  * listed at it, in that order, and gives the first that applies. A refused call hands back zeros beside its number, and changes neither
- * the table nor any buffer. The numbers of a place, a width, a record type, and a ROM image's vendor, device and code type are compared
- * whole: code type 256 does not pass for code type 0. Session and bridge numbers and the small fields of a row are bytes: what is stored
- * in them has been cut to a byte before it comes in.
+ * the table nor any buffer. The numbers of a place, a width, a record's type and values, and a ROM image's vendor, device and code type
+ * are compared whole: code type 256 does not pass for code type 0. Session and bridge numbers, the small fields of a row and the flags of
+ * slipwattle_settings are bytes: what is stored in them has been cut to a byte before it comes in.
  *
  * What the caller sees to, since C cannot:
  *  - A table comes only from slipwattle_start, and only these calls change it. It may be copied; its fields are not for the caller.
  *  - A pointer with a length or a count leads to that many bytes, numbers or rows. Where that is 0 the pointer may be NULL.
- *  - What a call may change (the table, the answer buffer) overlaps nothing else that is lent to it, and no other thread uses it meanwhile.
- *    Several threads may at once make calls that take the table as const.
+ *  - What a call may change (the table, the answer buffer, the buffer for records) overlaps nothing else that is lent to it, and no other
+ *    thread uses it meanwhile. Several threads may at once make calls that take the table as const.
  *
  * What const rests on: it is proved that a call which takes the table as const leaves it as it was. That it stores nothing through the
  * pointer, not even what stands there, is not proved; rust/tests/read_only.rs checks it on a table in read-only memory.
@@ -27,14 +27,16 @@ extern "C" {
 #endif
 
 #define SLIPWATTLE_VERSION_MAJOR 0
-#define SLIPWATTLE_VERSION_MINOR 6
+#define SLIPWATTLE_VERSION_MINOR 7
 #define SLIPWATTLE_VERSION_PATCH 0
-#define SLIPWATTLE_VERSION "0.6.0"
+#define SLIPWATTLE_VERSION "0.7.0"
 
-/* The most rows of a starting list (a table has a bridge for each), the registers of a type 2 record, and the most bytes of a ROM. */
+/* The most rows of a starting list (a table has a bridge for each), the registers of a type 2 record, the most bytes of a ROM, and the most
+ * bytes that slipwattle_write_records writes. */
 #define SLIPWATTLE_MAX_ROWS 64
 #define SLIPWATTLE_REGISTERS 8
 #define SLIPWATTLE_MAX_ROM 16777216u
+#define SLIPWATTLE_MAX_WRITTEN 113
 
 /* The number that each call gives. */
 enum slipwattle_refusal {
@@ -64,7 +66,11 @@ enum slipwattle_refusal {
     /* the ROM is above 16 MiB, or its chain of images is broken before or in its last image */
     SLIPWATTLE_REFUSAL_ROM = 12,
     /* the ROM's chain of images has none with the asked vendor, device and code type */
-    SLIPWATTLE_REFUSAL_NO_IMAGE = 13
+    SLIPWATTLE_REFUSAL_NO_IMAGE = 13,
+    /* a value of a record to be written is out of range */
+    SLIPWATTLE_REFUSAL_RECORD_VALUE = 14,
+    /* the buffer is too short for the records to be written */
+    SLIPWATTLE_REFUSAL_SHORT_BUFFER = 15
 };
 
 /* The number in words, for a person. */
@@ -98,6 +104,10 @@ static inline const char *slipwattle_refusal_text(int number) {
         return "the ROM is above 16 MiB, or its chain of images is broken before or in its last image";
     case SLIPWATTLE_REFUSAL_NO_IMAGE:
         return "the ROM's chain of images has none with the asked vendor, device and code type";
+    case SLIPWATTLE_REFUSAL_RECORD_VALUE:
+        return "a value of a record to be written is out of range";
+    case SLIPWATTLE_REFUSAL_SHORT_BUFFER:
+        return "the buffer is too short for the records to be written";
     default:
         return "no call gives this number";
     }
@@ -257,6 +267,62 @@ typedef struct {
  *    its length, header included. The call takes no table and no session. */
 slipwattle_record slipwattle_find_record(const uint8_t *slot, size_t slot_length, const uint8_t *bridge_block, size_t bridge_block_length,
                                          uint32_t type);
+
+/* The values of a PCI setting record, type 0 (ACPI, table 6-7 of document 002). */
+typedef struct {
+    uint32_t cache_line_size; /* in DWORDs, at most 255 */
+    uint32_t latency_timer;   /* in PCI clock cycles, at most 255 */
+    uint32_t enable_serr;     /* 0 or 1 */
+    uint32_t enable_perr;     /* 0 or 1 */
+} slipwattle_pci_setting;
+
+/* The values of a PCI-X setting record, type 1 (table 6-8, which says what each number stands for). */
+typedef struct {
+    uint32_t maximum_memory_read_byte_count;                 /* at most 3 */
+    uint32_t average_maximum_outstanding_split_transactions; /* at most 7 */
+    uint32_t total_maximum_outstanding_split_transactions;   /* at most 7 */
+} slipwattle_pci_x_setting;
+
+/* A register's masks: AND 1 and OR 0 keep a bit, both 0 clear it, both 1 set it. */
+typedef struct {
+    uint32_t and_mask;
+    uint32_t or_mask;
+} slipwattle_masks;
+
+/* The values of a PCI Express setting record, type 2 (table 6-9). */
+typedef struct {
+    slipwattle_masks uncorrectable_error_mask;
+    slipwattle_masks uncorrectable_error_severity;
+    slipwattle_masks correctable_error_mask;
+    slipwattle_masks advanced_error_capabilities_and_control;
+    slipwattle_masks device_control; /* at most 65535 each */
+    slipwattle_masks link_control;   /* at most 65535 each */
+    slipwattle_masks secondary_uncorrectable_error_severity;
+    slipwattle_masks secondary_uncorrectable_error_mask;
+} slipwattle_express_setting;
+
+/* At most one record of each type. Any flag but 0 says that the record is present; the values of one that is not count for nothing. */
+typedef struct {
+    slipwattle_pci_setting pci;
+    slipwattle_pci_x_setting pci_x;
+    slipwattle_express_setting express;
+    uint8_t has_pci;
+    uint8_t has_pci_x;
+    uint8_t has_express;
+} slipwattle_settings;
+
+typedef struct {
+    uint8_t number;
+    size_t length;
+} slipwattle_written;
+
+/* Writes the present records, with revision 1 and by rising type, as a record block at the start of the buffer. Refusals: 14, 15.
+ *
+ * buffer: SLIPWATTLE_MAX_WRITTEN bytes are enough for any settings. A record of type 0, 1 or 2 takes 23, 19 or 71, header included; where
+ *    none is present the buffer may be empty. The bytes behind the block are left as they were.
+ * What is handed back is the block's length, for slipwattle_find_record and slipwattle_register_values. The call takes no table and no
+ *    session. */
+slipwattle_written slipwattle_write_records(slipwattle_settings settings, uint8_t *buffer, size_t buffer_length);
 
 typedef struct {
     uint8_t number;

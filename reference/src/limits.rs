@@ -16,7 +16,15 @@ pub(crate) const MAX_DEVICE: u32 = 31;
 pub(crate) const MAX_FUNCTION: u32 = 7;
 /// Highest offset in the configuration space of a function.
 pub(crate) const MAX_OFFSET: u32 = 4095;
-/// Highest value of a 16-bit register.
+/// Highest cache line size and latency timer of a PCI setting record.
+pub(crate) const MAX_BYTE: u32 = 255;
+/// Highest number that tells whether SERR or PERR is enabled.
+pub(crate) const MAX_ENABLE: u32 = 1;
+/// Highest read count of a PCI-X setting record.
+pub(crate) const MAX_READ_COUNT: u32 = 3;
+/// Highest split count of a PCI-X setting record.
+pub(crate) const MAX_SPLITS: u32 = 7;
+/// Highest value of a 16-bit register, and of a mask for it.
 pub(crate) const MAX_WORD: u32 = 65535;
 /// Most bytes of a ROM: 16 MiB, of document 02, a.
 pub(crate) const MAX_ROM: usize = 16 << 20;

@@ -1,18 +1,18 @@
 //! Record blocks: the _HPX setting records.
 
-use crate::limits::{MAX_BLOCK, MAX_WORD};
+use crate::limits::{MAX_BLOCK, MAX_BYTE, MAX_ENABLE, MAX_READ_COUNT, MAX_SPLITS, MAX_WORD};
 use crate::refusal::Refusal;
 
 /// The type of the PCI setting record.
-const PCI: u8 = 0;
+pub(crate) const PCI: u8 = 0;
 /// The type of the PCI-X setting record.
-const PCI_X: u8 = 1;
+pub(crate) const PCI_X: u8 = 1;
 /// The type of the PCI Express setting record.
 pub(crate) const PCI_EXPRESS: u8 = 2;
 /// Bytes before a field's value: the tag and the length.
-const FIELD_HEADER: usize = 3;
+pub(crate) const FIELD_HEADER: usize = 3;
 /// The record revision that is understood.
-const REVISION: u32 = 1;
+pub(crate) const REVISION: u32 = 1;
 
 /// A 4-byte little-endian number as it stands in a value.
 pub(crate) type Number = [u8; 4];
@@ -99,10 +99,11 @@ fn take_field(block: &[u8]) -> Option<(Field<'_>, &[u8])> {
 fn within_limits(tag: u8, numbers: &[Number]) -> bool {
     match (tag, numbers) {
         (PCI, [cache_line, latency, serr, perr]) => {
-            at_most(255, [cache_line, latency]) && at_most(1, [serr, perr])
+            at_most(MAX_BYTE, [cache_line, latency]) && at_most(MAX_ENABLE, [serr, perr])
         }
         (PCI_X, [read_count, average_splits, total_splits]) => {
-            at_most(3, [read_count]) && at_most(7, [average_splits, total_splits])
+            at_most(MAX_READ_COUNT, [read_count])
+                && at_most(MAX_SPLITS, [average_splits, total_splits])
         }
         (PCI_EXPRESS, [_, _, _, _, _, _, _, _, words @ .., _, _, _, _]) if words.len() == 4 => {
             at_most(MAX_WORD, words)

@@ -30,10 +30,14 @@ pub enum Refusal {
     Rom = 12,
     /// The chain of images has none with this vendor, device and code type.
     NoImage = 13,
+    /// A value of a record to be written is out of range.
+    RecordValue = 14,
+    /// The buffer is too short for the records to be written.
+    ShortBuffer = 15,
 }
 
 impl Refusal {
-    /// The number in document 01; 12 and 13 are of document 02, a.
+    /// The number in document 01; 12 and 13 are of document 02, a, and 14 and 15 of its g.
     pub fn number(self) -> u8 {
         self as u8
     }

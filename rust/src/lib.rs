@@ -2,8 +2,8 @@
 //!
 //! A [`Table`] of host bridges is started from the bytes of an ACPI MCFG table and a list of rows. Each bridge has one owner, and
 //! every call on a table carries the number of the session that makes it: at a bridge of another session it is refused, and changes
-//! nothing. The calls answer _OSC, hand out ECAM configuration addresses and read them back, find _HPX setting records and expansion ROM
-//! images, and compute register values. Nothing is written to hardware.
+//! nothing. The calls answer _OSC, hand out ECAM configuration addresses and read them back, find and write _HPX setting records, find
+//! expansion ROM images, and compute register values. Nothing is written to hardware.
 //!
 //! The calls are written in Rattle and proved against their definitions; this crate lends them its buffers, so that what the C
 //! header asks of its caller holds by type. It has no dependency, needs no allocator and no `std`; of the platform the library
@@ -66,6 +66,7 @@ pub mod osc;
 mod records;
 mod refusal;
 mod rom;
+mod settings;
 pub mod sys;
 mod table;
 mod types;
@@ -73,6 +74,9 @@ mod types;
 pub use records::find_record;
 pub use refusal::Refusal;
 pub use rom::find_image;
-pub use sys::{MAX_ROM, MAX_ROWS, REGISTERS};
+pub use settings::Settings;
+#[doc(inline)]
+pub use sys::{ExpressSetting, Masks, PciSetting, PciXSetting};
+pub use sys::{MAX_ROM, MAX_ROWS, MAX_WRITTEN, REGISTERS};
 pub use table::Table;
 pub use types::{BridgeKind, BridgeNumber, BridgeRow, Holding, Place, SessionNumber};

@@ -3,7 +3,8 @@ use crate::refusal::{Refusal, done};
 use crate::sys;
 
 /// Finds the revision 1 _HPX setting record of a type (0, 1 or 2) in the slot's and the bridge's record blocks, of 0 to 4096 bytes. If the
-/// slot's block is not empty it alone decides. The record is a part of the block that decided, its three bytes of header included.
+/// slot's block is not empty it alone decides. The record is a part of the block that decided, its three bytes of header included;
+/// [`Settings::read`](crate::Settings::read) gives the values of a block's records.
 ///
 /// # Errors
 ///

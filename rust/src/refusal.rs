@@ -43,10 +43,14 @@ pub enum Refusal {
     Rom = 12,
     /// The ROM's chain of images has none with the asked vendor, device and code type.
     NoImage = 13,
+    /// A value of a record to be written is out of range.
+    RecordValue = 14,
+    /// The buffer is too short for the records to be written.
+    ShortBuffer = 15,
 }
 
 impl Refusal {
-    const ALL: [Refusal; 13] = [
+    const ALL: [Refusal; 15] = [
         Refusal::NoSuchBridge,
         Refusal::NotOwner,
         Refusal::Framing,
@@ -60,9 +64,11 @@ impl Refusal {
         Refusal::NoHotPlug,
         Refusal::Rom,
         Refusal::NoImage,
+        Refusal::RecordValue,
+        Refusal::ShortBuffer,
     ];
 
-    /// The refusal's number, 1 to 13.
+    /// The refusal's number, 1 to 15.
     pub fn number(self) -> u8 {
         self as u8
     }
@@ -96,11 +102,13 @@ impl Refusal {
             Refusal::NoImage => {
                 "the ROM's chain of images has none with the asked vendor, device and code type"
             }
+            Refusal::RecordValue => "a value of a record to be written is out of range",
+            Refusal::ShortBuffer => "the buffer is too short for the records to be written",
         }
     }
 }
 
-/// The refusal of a number that a call of [`sys`](crate::sys) gave. The error is the number itself, 0 or above 13.
+/// The refusal of a number that a call of [`sys`](crate::sys) gave. The error is the number itself, 0 or above 15.
 impl TryFrom<u8> for Refusal {
     type Error = u8;
 
@@ -118,7 +126,7 @@ impl fmt::Display for Refusal {
 
 impl core::error::Error for Refusal {}
 
-/// The number of a call as a result. No call gives a number above 13.
+/// The number of a call as a result. No call gives a number above 15.
 pub(crate) fn done(number: u8) -> Result<(), Refusal> {
     if number == 0 {
         return Ok(());

@@ -14,6 +14,8 @@ pub const MAX_ROWS: usize = 64;
 pub const REGISTERS: usize = 8;
 /// The most bytes of a ROM: 16 MiB.
 pub const MAX_ROM: usize = 16_777_216;
+/// The most bytes that the writer of records writes.
+pub const MAX_WRITTEN: usize = 113;
 
 /// `slipwattle_session`.
 #[repr(C)]
@@ -161,6 +163,93 @@ pub struct RecordAt {
     pub size: usize,
 }
 
+/// `slipwattle_pci_setting`: the values of a PCI setting record, type 0 (ACPI, table 6-7 of document 002).
+#[repr(C)]
+#[derive(Clone, Copy, Debug, PartialEq, Eq)]
+pub struct PciSetting {
+    /// In DWORDs, at most 255.
+    pub cache_line_size: u32,
+    /// In PCI clock cycles, at most 255.
+    pub latency_timer: u32,
+    /// 0 or 1.
+    pub enable_serr: u32,
+    /// 0 or 1.
+    pub enable_perr: u32,
+}
+
+/// `slipwattle_pci_x_setting`: the values of a PCI-X setting record, type 1 (table 6-8, which says what each number stands for).
+#[repr(C)]
+#[derive(Clone, Copy, Debug, PartialEq, Eq)]
+pub struct PciXSetting {
+    /// At most 3.
+    pub maximum_memory_read_byte_count: u32,
+    /// At most 7.
+    pub average_maximum_outstanding_split_transactions: u32,
+    /// At most 7.
+    pub total_maximum_outstanding_split_transactions: u32,
+}
+
+/// `slipwattle_masks`: a register's masks. AND 1 and OR 0 keep a bit, both 0 clear it, both 1 set it. The header has `and_mask` and
+/// `or_mask`, since `and` and `or` are operators in C++.
+#[repr(C)]
+#[derive(Clone, Copy, Debug, PartialEq, Eq)]
+pub struct Masks {
+    /// The AND mask.
+    pub and: u32,
+    /// The OR mask.
+    pub or: u32,
+}
+
+/// `slipwattle_express_setting`: the values of a PCI Express setting record, type 2 (table 6-9).
+#[repr(C)]
+#[derive(Clone, Copy, Debug, PartialEq, Eq)]
+pub struct ExpressSetting {
+    /// Uncorrectable Error Mask.
+    pub uncorrectable_error_mask: Masks,
+    /// Uncorrectable Error Severity.
+    pub uncorrectable_error_severity: Masks,
+    /// Correctable Error Mask.
+    pub correctable_error_mask: Masks,
+    /// Advanced Error Capabilities and Control.
+    pub advanced_error_capabilities_and_control: Masks,
+    /// Device Control, at most 65535 each.
+    pub device_control: Masks,
+    /// Link Control, at most 65535 each.
+    pub link_control: Masks,
+    /// Secondary Uncorrectable Error Severity.
+    pub secondary_uncorrectable_error_severity: Masks,
+    /// Secondary Uncorrectable Error Mask.
+    pub secondary_uncorrectable_error_mask: Masks,
+}
+
+/// `slipwattle_settings`: at most one record of each type. The values of one that is not present count for nothing.
+#[repr(C)]
+#[derive(Clone, Copy, Debug, PartialEq, Eq)]
+pub struct Settings {
+    /// The record of type 0.
+    pub pci: PciSetting,
+    /// The record of type 1.
+    pub pci_x: PciXSetting,
+    /// The record of type 2.
+    pub express: ExpressSetting,
+    /// Whether that of type 0 is present: any number but 0.
+    pub has_pci: u8,
+    /// Whether that of type 1 is.
+    pub has_pci_x: u8,
+    /// Whether that of type 2 is.
+    pub has_express: u8,
+}
+
+/// `slipwattle_written`.
+#[repr(C)]
+#[derive(Clone, Copy, Debug, PartialEq, Eq)]
+pub struct Written {
+    /// 0 or the refusal.
+    pub number: u8,
+    /// How many bytes at the start of the buffer are the block.
+    pub length: usize,
+}
+
 /// `slipwattle_image`: where an image lies in the ROM.
 #[repr(C)]
 #[derive(Clone, Copy, Debug, PartialEq, Eq)]
@@ -207,6 +296,29 @@ const _: () = {
     assert!(size_of::<Located>() == 8 && offset_of!(Located, place) == 2);
     assert!(size_of::<RecordAt>() == 24 && offset_of!(RecordAt, in_slot) == 1);
     assert!(offset_of!(RecordAt, start) == 8 && offset_of!(RecordAt, size) == 16);
+    assert!(size_of::<PciSetting>() == 16 && offset_of!(PciSetting, cache_line_size) == 0);
+    assert!(offset_of!(PciSetting, latency_timer) == 4);
+    assert!(offset_of!(PciSetting, enable_serr) == 8 && offset_of!(PciSetting, enable_perr) == 12);
+    assert!(size_of::<PciXSetting>() == 12);
+    assert!(offset_of!(PciXSetting, maximum_memory_read_byte_count) == 0);
+    assert!(offset_of!(PciXSetting, average_maximum_outstanding_split_transactions) == 4);
+    assert!(offset_of!(PciXSetting, total_maximum_outstanding_split_transactions) == 8);
+    assert!(size_of::<Masks>() == 8 && offset_of!(Masks, and) == 0 && offset_of!(Masks, or) == 4);
+    assert!(size_of::<ExpressSetting>() == 64);
+    assert!(offset_of!(ExpressSetting, uncorrectable_error_mask) == 0);
+    assert!(offset_of!(ExpressSetting, uncorrectable_error_severity) == 8);
+    assert!(offset_of!(ExpressSetting, correctable_error_mask) == 16);
+    assert!(offset_of!(ExpressSetting, advanced_error_capabilities_and_control) == 24);
+    assert!(offset_of!(ExpressSetting, device_control) == 32);
+    assert!(offset_of!(ExpressSetting, link_control) == 40);
+    assert!(offset_of!(ExpressSetting, secondary_uncorrectable_error_severity) == 48);
+    assert!(offset_of!(ExpressSetting, secondary_uncorrectable_error_mask) == 56);
+    assert!(size_of::<Settings>() == 96 && align_of::<Settings>() == 4);
+    assert!(offset_of!(Settings, pci) == 0 && offset_of!(Settings, pci_x) == 16);
+    assert!(offset_of!(Settings, express) == 28 && offset_of!(Settings, has_pci) == 92);
+    assert!(offset_of!(Settings, has_pci_x) == 93 && offset_of!(Settings, has_express) == 94);
+    assert!(size_of::<Written>() == 16 && offset_of!(Written, number) == 0);
+    assert!(offset_of!(Written, length) == 8);
     assert!(size_of::<ImageAt>() == 24 && offset_of!(ImageAt, number) == 0);
     assert!(offset_of!(ImageAt, start) == 8 && offset_of!(ImageAt, size) == 16);
     assert!(size_of::<Values>() == 36 && offset_of!(Values, values) == 4);
@@ -269,6 +381,13 @@ unsafe extern "C" {
         bridge_block_length: usize,
         record_type: u32,
     ) -> RecordAt;
+
+    /// Writes the present records at the start of the buffer.
+    pub fn slipwattle_write_records(
+        settings: Settings,
+        buffer: *mut u8,
+        buffer_length: usize,
+    ) -> Written;
 
     /// Finds the first expansion ROM image with this vendor, device and code type.
     pub fn slipwattle_find_image(

@@ -11,8 +11,8 @@ use slipwattle::osc::{
     STATUS_MASKED, STATUS_UNKNOWN_REVISION, STATUS_UNKNOWN_UUID,
 };
 use slipwattle::{
-    BridgeKind, BridgeNumber, BridgeRow, Holding, MAX_ROM, Place, Refusal, SessionNumber, Table,
-    find_image, find_record,
+    BridgeKind, BridgeNumber, BridgeRow, Holding, MAX_ROM, PciXSetting, Place, Refusal,
+    SessionNumber, Settings, Table, find_image, find_record,
 };
 
 const CLASS: SessionNumber = SessionNumber(1);
@@ -403,7 +403,7 @@ fn register_values_keep_the_payload_sizes_of_device_control() {
 }
 
 /// A call for each refusal, in the order of their numbers.
-fn refused() -> [Refusal; 13] {
+fn refused() -> [Refusal; 15] {
     let mut table = taken(HOT_PLUG);
     let mut answer = [0xAA; 12];
     let framing = table.osc(CLASS, CLASS_BRIDGE, 1, 3, &OSC_UUID, &[], &mut answer);
@@ -420,6 +420,18 @@ fn refused() -> [Refusal; 13] {
         let refused = table.register_values(CLASS, CLASS_BRIDGE, &[], &type_2(), &[0; 7]);
         refused.unwrap_err()
     };
+    let write = |maximum_memory_read_byte_count| {
+        let pci_x = Some(PciXSetting {
+            maximum_memory_read_byte_count,
+            average_maximum_outstanding_split_transactions: 0,
+            total_maximum_outstanding_split_transactions: 0,
+        });
+        let settings = Settings {
+            pci_x,
+            ..Settings::default()
+        };
+        settings.write(&mut []).unwrap_err()
+    };
     [
         address(BridgeNumber(2), 32),
         address(LIVE_BRIDGE, 32),
@@ -434,6 +446,8 @@ fn refused() -> [Refusal; 13] {
         values(taken(CONTROL_EXPRESS_CAPABILITY)),
         find_ours(&[]).unwrap_err(),
         find_image(&two_images(), VENDOR, DEVICE, PC_AT).unwrap_err(),
+        write(4),
+        write(3),
     ]
 }
 
@@ -444,7 +458,7 @@ fn each_refusal_has_its_number() {
         assert_eq!(Refusal::try_from(number), Ok(refusal));
     }
     assert_eq!(Refusal::try_from(0), Err(0));
-    assert_eq!(Refusal::try_from(14), Err(14));
+    assert_eq!(Refusal::try_from(16), Err(16));
 }
 
 #[test]

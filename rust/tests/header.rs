@@ -3,7 +3,7 @@ use std::collections::BTreeMap;
 
 use slipwattle::code_type::*;
 use slipwattle::osc::*;
-use slipwattle::{BridgeKind, MAX_ROM, MAX_ROWS, REGISTERS, Refusal};
+use slipwattle::{BridgeKind, MAX_ROM, MAX_ROWS, MAX_WRITTEN, REGISTERS, Refusal};
 
 const HEADER: &str = include_str!("../../include/slipwattle.h");
 
@@ -68,6 +68,7 @@ fn numbers() -> BTreeMap<String, u32> {
         ("MAX_ROWS", MAX_ROWS as u32),
         ("REGISTERS", REGISTERS as u32),
         ("MAX_ROM", MAX_ROM as u32),
+        ("MAX_WRITTEN", MAX_WRITTEN as u32),
         ("DONE", 0),
         ("KIND_EXPRESS", BridgeKind::Express as u32),
         ("KIND_CONVENTIONAL", BridgeKind::Conventional as u32),

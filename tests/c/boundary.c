@@ -1,5 +1,5 @@
-/* The nine calls from C: numbers, results, buffers and tables as include/slipwattle.h promises them, on either side of the limits of rows, framing, places, buses,
- * ROMs and the register list.
+/* The ten calls from C: numbers, results, buffers and tables as include/slipwattle.h promises them, on either side of the limits of rows, framing, places, buses,
+ * written records, ROMs and the register list.
  * Compiled as C11 and as C++17. What is expected is worked out from the documents. */
 #include <assert.h>
 #include <stdio.h>
@@ -70,6 +70,37 @@ AT(slipwattle_record, number, 0);
 AT(slipwattle_record, in_slot, 1);
 AT(slipwattle_record, start, 8);
 AT(slipwattle_record, size, 16);
+SIZE(slipwattle_pci_setting, 16);
+AT(slipwattle_pci_setting, cache_line_size, 0);
+AT(slipwattle_pci_setting, latency_timer, 4);
+AT(slipwattle_pci_setting, enable_serr, 8);
+AT(slipwattle_pci_setting, enable_perr, 12);
+SIZE(slipwattle_pci_x_setting, 12);
+AT(slipwattle_pci_x_setting, maximum_memory_read_byte_count, 0);
+AT(slipwattle_pci_x_setting, average_maximum_outstanding_split_transactions, 4);
+AT(slipwattle_pci_x_setting, total_maximum_outstanding_split_transactions, 8);
+SIZE(slipwattle_masks, 8);
+AT(slipwattle_masks, and_mask, 0);
+AT(slipwattle_masks, or_mask, 4);
+SIZE(slipwattle_express_setting, 64);
+AT(slipwattle_express_setting, uncorrectable_error_mask, 0);
+AT(slipwattle_express_setting, uncorrectable_error_severity, 8);
+AT(slipwattle_express_setting, correctable_error_mask, 16);
+AT(slipwattle_express_setting, advanced_error_capabilities_and_control, 24);
+AT(slipwattle_express_setting, device_control, 32);
+AT(slipwattle_express_setting, link_control, 40);
+AT(slipwattle_express_setting, secondary_uncorrectable_error_severity, 48);
+AT(slipwattle_express_setting, secondary_uncorrectable_error_mask, 56);
+SIZE(slipwattle_settings, 96);
+AT(slipwattle_settings, pci, 0);
+AT(slipwattle_settings, pci_x, 16);
+AT(slipwattle_settings, express, 28);
+AT(slipwattle_settings, has_pci, 92);
+AT(slipwattle_settings, has_pci_x, 93);
+AT(slipwattle_settings, has_express, 94);
+SIZE(slipwattle_written, 16);
+AT(slipwattle_written, number, 0);
+AT(slipwattle_written, length, 8);
 SIZE(slipwattle_image, 24);
 AT(slipwattle_image, number, 0);
 AT(slipwattle_image, start, 8);
@@ -467,6 +498,212 @@ static void finds_records_in_4096_bytes(void) {
     CHECK(r.number == 8 && !r.in_slot && r.start == 0 && r.size == 0);
 }
 
+/* A record of each type by hand, and where each starts. No two values of a record are the same. */
+static const size_t STARTS[4] = {0, 23, 42, 113};
+static const uint8_t RECORDS[113] = {
+    0x00, 0x14, 0, 1, 0, 0, 0, 0x10, 0, 0, 0, 0xF8, 0, 0, 0, 0, 0, 0, 0, 1, 0, 0, 0,
+    0x01, 0x10, 0, 1, 0, 0, 0, 2, 0, 0, 0, 5, 0, 0, 0, 6, 0, 0, 0,
+    0x02, 0x44, 0, 1, 0, 0, 0,
+    0x09, 0x0A, 0x0B, 0x0C, 0x01, 0x02, 0x03, 0x04, 0x19, 0x1A, 0x1B, 0x1C, 0x11, 0x12, 0x13, 0x14,
+    0x29, 0x2A, 0x2B, 0x2C, 0x21, 0x22, 0x23, 0x24, 0x39, 0x3A, 0x3B, 0x3C, 0x31, 0x32, 0x33, 0x34,
+    0x49, 0x4A, 0x00, 0x00, 0x41, 0x42, 0x00, 0x00, 0x59, 0x5A, 0x00, 0x00, 0x51, 0x52, 0x00, 0x00,
+    0x69, 0x6A, 0x6B, 0x6C, 0x61, 0x62, 0x63, 0x64, 0xF9, 0xFA, 0xFB, 0xFC, 0xF1, 0xF2, 0xF3, 0xF4,
+};
+
+/* The block of those of them whose type is a bit of the choice; gives its length. */
+static size_t write_choice(uint8_t block[113], unsigned choice) {
+    size_t length = 0;
+    unsigned k;
+    for (k = 0; k < 3; k++) {
+        if (choice >> k & 1) {
+            memcpy(block + length, RECORDS + STARTS[k], STARTS[k + 1] - STARTS[k]);
+            length += STARTS[k + 1] - STARTS[k];
+        }
+    }
+    return length;
+}
+
+static slipwattle_masks masks(uint32_t and_mask, uint32_t or_mask) {
+    slipwattle_masks m;
+    m.and_mask = and_mask;
+    m.or_mask = or_mask;
+    return m;
+}
+
+/* The same by value. */
+static slipwattle_settings chosen(unsigned choice) {
+    slipwattle_settings s;
+    s.pci.cache_line_size = 0x10;
+    s.pci.latency_timer = 0xF8;
+    s.pci.enable_serr = 0;
+    s.pci.enable_perr = 1;
+    s.pci_x.maximum_memory_read_byte_count = 2;
+    s.pci_x.average_maximum_outstanding_split_transactions = 5;
+    s.pci_x.total_maximum_outstanding_split_transactions = 6;
+    s.express.uncorrectable_error_mask = masks(0x0C0B0A09, 0x04030201);
+    s.express.uncorrectable_error_severity = masks(0x1C1B1A19, 0x14131211);
+    s.express.correctable_error_mask = masks(0x2C2B2A29, 0x24232221);
+    s.express.advanced_error_capabilities_and_control = masks(0x3C3B3A39, 0x34333231);
+    s.express.device_control = masks(0x4A49, 0x4241);
+    s.express.link_control = masks(0x5A59, 0x5251);
+    s.express.secondary_uncorrectable_error_severity = masks(0x6C6B6A69, 0x64636261);
+    s.express.secondary_uncorrectable_error_mask = masks(0xFCFBFAF9u, 0xF4F3F2F1u);
+    s.has_pci = choice & 1;
+    s.has_pci_x = choice >> 1 & 1;
+    s.has_express = choice >> 2 & 1;
+    return s;
+}
+
+/* Whether writing into a buffer of so many bytes gives this number, and with 0 this block at its start. Every other byte stays, those around the buffer too. */
+static bool writes(slipwattle_settings s, size_t length, unsigned number, const uint8_t *block, size_t block_length) {
+    uint8_t bytes[256], expected[256];
+    slipwattle_written w;
+    memset(bytes, 0xAA, sizeof bytes);
+    memset(expected, 0xAA, sizeof expected);
+    memcpy(expected + 33, block, block_length);
+    w = slipwattle_write_records(s, bytes + 33, length);
+    return w.number == number && w.length == block_length && memcmp(bytes, expected, sizeof bytes) == 0;
+}
+
+static bool refuses(slipwattle_settings s, size_t length, unsigned number) {
+    return writes(s, length, number, RECORDS, 0);
+}
+
+static void writes_each_choice_of_types(void) {
+    uint8_t block[113];
+    unsigned choice;
+    size_t length, size;
+    for (choice = 0; choice < 8; choice++) {
+        size = write_choice(block, choice);
+        for (length = 0; length <= 200; length++) {
+            CHECK(length < size ? refuses(chosen(choice), length, 15) : writes(chosen(choice), length, 0, block, size));
+        }
+    }
+    CHECK(writes(chosen(7), SLIPWATTLE_MAX_WRITTEN, 0, RECORDS, 113));
+    CHECK(refuses(chosen(7), SLIPWATTLE_MAX_WRITTEN - 1, 15));
+}
+
+static void finds_what_was_written(void) {
+    uint8_t block[SLIPWATTLE_MAX_WRITTEN];
+    unsigned choice, k;
+    for (choice = 0; choice < 8; choice++) {
+        size_t length = slipwattle_write_records(chosen(choice), block, sizeof block).length, start = 0;
+        for (k = 0; k < 3; k++) {
+            slipwattle_record r = slipwattle_find_record(NULL, 0, block, length, k);
+            if (choice >> k & 1) {
+                CHECK(r.number == 0 && r.start == start && r.size == STARTS[k + 1] - STARTS[k]);
+                start += r.size;
+            } else {
+                CHECK(r.number == 9);
+            }
+        }
+    }
+}
+
+/* The example's records by value. */
+static void writes_the_example(void) {
+    slipwattle_settings s = chosen(3);
+    s.pci.cache_line_size = 8;
+    s.pci.latency_timer = 0x40;
+    s.pci.enable_serr = 1;
+    s.pci.enable_perr = 0;
+    s.pci_x.maximum_memory_read_byte_count = 3;
+    s.pci_x.average_maximum_outstanding_split_transactions = 4;
+    s.pci_x.total_maximum_outstanding_split_transactions = 7;
+    CHECK(writes(s, 42, 0, EXAMPLE, 42));
+    CHECK(refuses(s, 41, 15));
+}
+
+static void any_flag_but_0_counts(void) {
+    static const uint8_t flags[4] = {2, 0x10, 0x80, 0xFF};
+    slipwattle_settings s = chosen(0);
+    size_t k;
+    for (k = 0; k < 4; k++) {
+        s.has_pci = flags[k];
+        s.has_pci_x = s.has_express = 0;
+        CHECK(writes(s, 113, 0, RECORDS, 23));
+        s.has_pci_x = flags[k];
+        CHECK(writes(s, 113, 0, RECORDS, 42));
+        s.has_express = flags[k];
+        CHECK(writes(s, 113, 0, RECORDS, 113));
+    }
+}
+
+static void writes_into_no_buffer(void) {
+    slipwattle_settings s = chosen(2);
+    slipwattle_written w = slipwattle_write_records(chosen(0), NULL, 0);
+    CHECK(w.number == 0 && w.length == 0);
+    w = slipwattle_write_records(s, NULL, 0);
+    CHECK(w.number == 15 && w.length == 0);
+    s.pci_x.maximum_memory_read_byte_count = 4;
+    w = slipwattle_write_records(s, NULL, 0);
+    CHECK(w.number == 14 && w.length == 0);
+}
+
+/* The records of a choice with another value at this offset. */
+static slipwattle_settings with_value(unsigned choice, size_t offset, uint32_t value) {
+    slipwattle_settings s = chosen(choice);
+    memcpy((uint8_t *)&s + offset, &value, sizeof value);
+    return s;
+}
+
+static void written_values_have_limits(void) {
+    static const struct {
+        size_t offset;
+        size_t at;
+        uint32_t limit;
+        unsigned type;
+    } values[11] = {
+        /* offset in the settings, byte of the block, limit, type */
+        {offsetof(slipwattle_settings, pci.cache_line_size), 7, 255, 0},
+        {offsetof(slipwattle_settings, pci.latency_timer), 11, 255, 0},
+        {offsetof(slipwattle_settings, pci.enable_serr), 15, 1, 0},
+        {offsetof(slipwattle_settings, pci.enable_perr), 19, 1, 0},
+        {offsetof(slipwattle_settings, pci_x.maximum_memory_read_byte_count), 30, 3, 1},
+        {offsetof(slipwattle_settings, pci_x.average_maximum_outstanding_split_transactions), 34, 7, 1},
+        {offsetof(slipwattle_settings, pci_x.total_maximum_outstanding_split_transactions), 38, 7, 1},
+        {offsetof(slipwattle_settings, express.device_control.and_mask), 81, 65535, 2},
+        {offsetof(slipwattle_settings, express.device_control.or_mask), 85, 65535, 2},
+        {offsetof(slipwattle_settings, express.link_control.and_mask), 89, 65535, 2},
+        {offsetof(slipwattle_settings, express.link_control.or_mask), 93, 65535, 2},
+    };
+    uint8_t block[113];
+    size_t j, k, size;
+    for (k = 0; k < 11; k++) {
+        const size_t offset = values[k].offset, at = values[k].at;
+        const uint32_t limit = values[k].limit;
+        const unsigned others = 7u ^ 1u << values[k].type;
+        /* All but the first would be right if they were cut to a byte or a word, or had a sign. */
+        const uint32_t above[5] = {limit + 1, limit + 256, limit + 65536, 0x80000000u, 0xFFFFFFFFu};
+        memcpy(block, RECORDS, 113);
+        block[at] = (uint8_t)(limit % 256);
+        block[at + 1] = (uint8_t)(limit / 256);
+        CHECK(writes(with_value(7, offset, limit), 113, 0, block, 113));
+        size = write_choice(block, others);
+        for (j = 0; j < 5; j++) {
+            CHECK(refuses(with_value(7, offset, above[j]), 113, 14));
+            CHECK(refuses(with_value(7, offset, above[j]), 112, 14));
+            CHECK(refuses(with_value(7, offset, above[j]), 0, 14));
+            /* In an absent record it counts for nothing. */
+            CHECK(writes(with_value(others, offset, above[j]), 113, 0, block, size));
+        }
+    }
+}
+
+/* The masks of the six error registers. */
+static void other_values_have_none(void) {
+    const slipwattle_masks all_ones = masks(0xFFFFFFFFu, 0xFFFFFFFFu);
+    slipwattle_settings s = chosen(7);
+    uint8_t block[113];
+    s.express.uncorrectable_error_mask = s.express.uncorrectable_error_severity = s.express.correctable_error_mask = all_ones;
+    s.express.advanced_error_capabilities_and_control = all_ones;
+    s.express.secondary_uncorrectable_error_severity = s.express.secondary_uncorrectable_error_mask = all_ones;
+    memcpy(block, RECORDS, 113);
+    memset(block + 49, 0xFF, 32);
+    memset(block + 97, 0xFF, 16);
+    CHECK(writes(s, 113, 0, block, 113));
+}
+
 /* An image by hand, of so many units of 512 bytes: vendor 0x1234, device 0x5678, UEFI. The indicator 0x80 makes it the last. */
 static void write_image(uint8_t *image, size_t pointer, size_t units, uint8_t indicator) {
     static const uint8_t names[8] = {'P', 'C', 'I', 'R', 0x34, 0x12, 0x78, 0x56};
@@ -695,9 +932,9 @@ static void keeps_payload_sizes(const slipwattle_table *t) {
 }
 
 static void has_a_text_for_each_number(void) {
-    const char *none = slipwattle_refusal_text(14);
+    const char *none = slipwattle_refusal_text(16);
     int n, other;
-    for (n = SLIPWATTLE_DONE; n <= 14; n++) {
+    for (n = SLIPWATTLE_DONE; n <= 16; n++) {
         CHECK(slipwattle_refusal_text(n)[0] != '\0');
         for (other = SLIPWATTLE_DONE; other < n; other++) {
             CHECK(strcmp(slipwattle_refusal_text(n), slipwattle_refusal_text(other)) != 0);
@@ -728,6 +965,13 @@ int main(void) {
     places_are_refused_in_order(&s.table);
     finds_records();
     finds_records_in_4096_bytes();
+    writes_each_choice_of_types();
+    finds_what_was_written();
+    writes_the_example();
+    any_flag_but_0_counts();
+    writes_into_no_buffer();
+    written_values_have_limits();
+    other_values_have_none();
     judges_each_byte_of_an_image();
     images_lie_inside_the_rom();
     compares_what_is_asked_whole();

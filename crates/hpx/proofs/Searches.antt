@@ -12,7 +12,7 @@ use borrow.Author.Tests.{eqb-true, le-ltb, not-false}
 use Rattle.rules.specs.Limits.{maxBlock}
 use Rattle.rules.specs.Lists.{every, first, isNone}
 use Rattle.rules.specs.Refusals.{firstOf}
-use Rattle.rules.specs.Records.{fieldAt, fieldsOf, value, isRecord, recordSize, valuesSound, fieldSound, soundFields, blockSound, deciding, recordAmong, recordIn, recordRefusals, foundBy, findRecord, registersBad, newValue, newValues}
+use Rattle.rules.specs.Records.{fieldAt, fieldsOf, value, isRecord, recordSize, inRanges, fieldSound, soundFields, blockSound, deciding, recordAmong, recordIn, recordRefusals, foundBy, findRecord, registersBad, newValue, newValues}
 use Rattle.rules.specs.declared.Field.{Field}
 use Rattle.rules.specs.declared.FoundAt.{FoundAt}
 use Rattle.rules.proofs.Tests.{and-true, and-l, and-r, and-off, or-false}
@@ -79,7 +79,7 @@ record-long l f p q =
     let t : f .tag ≡ 2 = eqb-true (f .tag) 2 (h .1) in
     let low = le-ltb 2 (f .tag) (omega arith) in
     let revision = and-r (leb (f .tag) 2) (eqb (value l f 0) 1) (h .0) in
-    let s = length-test (ltb 2 (f .tag)) (leb 4 (f .size)) (eqb (f .size % 4) 0) (eqb (value l f 0) 1) _ (valuesSound l f (f .tag)) q low revision in
+    let s = length-test (ltb 2 (f .tag)) (leb 4 (f .size)) (eqb (f .size % 4) 0) (eqb (value l f 0) 1) _ (inRanges (f .tag) (value l f)) q low revision in
     eqb-true (f .size) (recordSize (f .tag)) s ∙ ap recordSize t
 
 among-long : (l : List ℕ) (o : Option (List Field)) (f : Field) → soundFields l o ≡ true → recordAmong l 2 o ≡ some f → f .size ≡ 68

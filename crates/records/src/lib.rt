@@ -1,6 +1,10 @@
 // Record blocks: their fields, and the search of one block for a record.
+use rules::ExpressSetting;
 use rules::Field;
 use rules::FoundAt;
+use rules::Masks;
+use rules::PciSetting;
+use rules::PciXSetting;
 use rules::constants::MAX_BLOCK;
 ghost use mathlib.Core.Path.{_≡_};
 ghost use mathlib.Core.Bool.{_&&_};
@@ -9,7 +13,8 @@ ghost use Prim.Native.Nat.{_+_, _^_, _<_, _≤_};
 ghost use lib.Dec.{eqb, ltb};
 ghost use lib.ListN.{length};
 ghost use Rattle.rules.specs.Limits.{maxBlock};
-ghost use Rattle.rules.specs.Records.{isRecord, recordSize, valuesSound, fieldSound, findRecord};
+ghost use Rattle.rules.specs.Records.{value, isRecord, recordSize, andMask, orMask, inRanges, fieldSound, findRecord};
+ghost use Rattle.rules.specs.Writer.{numbersFrom, pciOf, pciXOf, expressOf};
 ghost use Rattle.records.specs.Fields.{fieldRead, judged, has, marked, choice};
 
 // A field taken apart, or the end of the walk, which is refusal 8.
@@ -37,42 +42,63 @@ pub fn read_field(b: &[u8], at: usize) -> FieldRead
     })
 }
 
-// Type 0: cache line and latency at most 255, SERR and PERR 0 or 1.
-fn values_sound_0(b: &[u8], f: Field) -> bool
+// The values of a type 0 record.
+fn read_pci(b: &[u8], f: Field) -> PciSetting
     requires { ⌜ 23 + f .start ≤ length (now b) ⌝ }
-    ensures { λ r. ⌜ r ≡ valuesSound (now (b .entry)) f 0 ⌝ }
+    ensures { λ r. ⌜ r ≡ pciOf (numbersFrom 5 0 (now (b .entry)) f) ⌝ }
 {
-    (words::read32(b, 7 + f.start) <= 255)
-        & (words::read32(b, 11 + f.start) <= 255)
-        & (words::read32(b, 15 + f.start) <= 1)
-        & (words::read32(b, 19 + f.start) <= 1)
+    PciSetting {
+        cache_line_size: words::read32(b, 7 + f.start),
+        latency_timer: words::read32(b, 11 + f.start),
+        enable_serr: words::read32(b, 15 + f.start),
+        enable_perr: words::read32(b, 19 + f.start),
+    }
 }
 
-// Type 1: read count at most 3, both split counts at most 7.
-fn values_sound_1(b: &[u8], f: Field) -> bool
+// The values of a type 1 record.
+fn read_pci_x(b: &[u8], f: Field) -> PciXSetting
     requires { ⌜ 19 + f .start ≤ length (now b) ⌝ }
-    ensures { λ r. ⌜ r ≡ valuesSound (now (b .entry)) f 1 ⌝ }
+    ensures { λ r. ⌜ r ≡ pciXOf (numbersFrom 4 0 (now (b .entry)) f) ⌝ }
 {
-    (words::read32(b, 7 + f.start) <= 3)
-        & (words::read32(b, 11 + f.start) <= 7)
-        & (words::read32(b, 15 + f.start) <= 7)
+    PciXSetting {
+        maximum_memory_read_byte_count: words::read32(b, 7 + f.start),
+        average_maximum_outstanding_split_transactions: words::read32(b, 11 + f.start),
+        total_maximum_outstanding_split_transactions: words::read32(b, 15 + f.start),
+    }
 }
 
-// Type 2: the pairs of Device Control and Link Control at most 65535.
-fn values_sound_2(b: &[u8], f: Field) -> bool
-    requires { ⌜ 71 + f .start ≤ length (now b) ⌝ }
-    ensures { λ r. ⌜ r ≡ valuesSound (now (b .entry)) f 2 ⌝ }
+// The AND/OR pair of register k.
+fn read_masks(b: &[u8], f: Field, k: usize) -> Masks
+    requires { ⌜ (k < 8) × (71 + f .start ≤ length (now b)) ⌝ }
+    ensures { λ r. ⌜ r ≡ record { and = andMask (now (b .entry)) f k; or = orMask (now (b .entry)) f k } ⌝ }
 {
-    (words::read32(b, 39 + f.start) <= 65535)
-        & (words::read32(b, 43 + f.start) <= 65535)
-        & (words::read32(b, 47 + f.start) <= 65535)
-        & (words::read32(b, 51 + f.start) <= 65535)
+    Masks {
+        and: words::read32(b, 3 + 4 * (1 + 2 * k) + f.start),
+        or: words::read32(b, 3 + 4 * (2 + 2 * k) + f.start),
+    }
+}
+
+// The values of a type 2 record.
+fn read_express(b: &[u8], f: Field) -> ExpressSetting
+    requires { ⌜ 71 + f .start ≤ length (now b) ⌝ }
+    ensures { λ r. ⌜ r ≡ expressOf (numbersFrom 17 0 (now (b .entry)) f) ⌝ }
+{
+    ExpressSetting {
+        uncorrectable_error_mask: read_masks(b, f, 0),
+        uncorrectable_error_severity: read_masks(b, f, 1),
+        correctable_error_mask: read_masks(b, f, 2),
+        advanced_error_capabilities_and_control: read_masks(b, f, 3),
+        device_control: read_masks(b, f, 4),
+        link_control: read_masks(b, f, 5),
+        secondary_uncorrectable_error_severity: read_masks(b, f, 6),
+        secondary_uncorrectable_error_mask: read_masks(b, f, 7),
+    }
 }
 
 // The length and the values of a revision 1 record, by its type.
 fn record_sound(b: &[u8], f: Field) -> bool
     requires { ⌜ 3 + f .size + f .start ≤ length (now b) ⌝ }
-    ensures { λ r. ⌜ r ≡ (eqb (f .size) (recordSize (f .tag)) && valuesSound (now (b .entry)) f (f .tag)) ⌝ }
+    ensures { λ r. ⌜ r ≡ (eqb (f .size) (recordSize (f .tag)) && inRanges (f .tag) (value (now (b .entry)) f)) ⌝ }
 {
     let tag = f.tag;
     match tag {
@@ -80,19 +106,19 @@ fn record_sound(b: &[u8], f: Field) -> bool
             if f.size != 20 {
                 return false;
             }
-            values_sound_0(b, f)
+            ranges::pci(read_pci(b, f))
         }
         1 => {
             if f.size != 16 {
                 return false;
             }
-            values_sound_1(b, f)
+            ranges::pci_x(read_pci_x(b, f))
         }
         _ => {
             if f.size != 68 {
                 return false;
             }
-            values_sound_2(b, f)
+            ranges::express(read_express(b, f))
         }
     }
 }

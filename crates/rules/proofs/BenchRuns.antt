@@ -8,15 +8,18 @@ use Rattle.rules.specs.Start.{rowsSound, startNumber, startTable}
 use Rattle.rules.specs.Osc.{granted, framingBad, recognised, oscAnswer, oscAfter}
 use Rattle.rules.specs.Records.{fieldsOf, blockSound, recordIn, sizesKept}
 use Rattle.rules.specs.Rom.{imagesOf, romSound, imageIn}
+use Rattle.rules.specs.Writer.{presentIn, readSettings, onlyRising}
 use Rattle.rules.specs.Calls.{step}
 use Rattle.rules.specs.BenchRuns.{ExampleRuns}
 
 pub example-runs : ExampleRuns
-unfolding maxRows maxEntries maxOwner maxBlock maxRom bit entries mcfgSound rowsSound startNumber startTable granted framingBad recognised oscAnswer oscAfter fieldsOf blockSound recordIn imagesOf romSound imageIn sizesKept step
+unfolding maxRows maxEntries maxOwner maxBlock maxRom bit entries mcfgSound rowsSound startNumber startTable granted framingBad recognised oscAnswer oscAfter fieldsOf blockSound recordIn presentIn readSettings onlyRising imagesOf romSound imageIn sizesKept step
 example-runs = (
   (refl, (refl, (refl, (refl, (refl, (refl, (refl, (refl, (refl, (refl, (refl, (refl, (refl, (refl, (refl, (refl, (refl, (refl, (refl, (refl, (refl, (refl, (refl, (refl, (refl, (refl, (refl, (refl, tt)))))))))))))))))))))))))))),
   (refl, tt),
   (refl, (refl, (refl, (refl, (refl, (refl, (refl, (refl, (refl, (refl, (refl, (refl, (refl, (refl, (refl, (refl, tt)))))))))))))))),
+  (refl, (refl, (refl, (refl, (refl, (refl, (refl, (refl, (refl, (refl, (refl, (refl, (refl, (refl, (refl, (refl, (refl, (refl, (refl, (refl, (refl, (refl, (refl, (refl, (refl, (refl, (refl, (refl, (refl, (refl, (refl, tt))))))))))))))))))))))))))))))),
+  (refl, (refl, (refl, (refl, (refl, (refl, (refl, (refl, (refl, (refl, (refl, tt))))))))))),
   (refl, (refl, (refl, (refl, (refl, (refl, (refl, (refl, (refl, (refl, (refl, (refl, (refl, (refl, (refl, (refl, (refl, (refl, (refl, (refl, (refl, (refl, (refl, (refl, (refl, (refl, (refl, (refl, (refl, tt))))))))))))))))))))))))))))),
   (refl, (refl, tt)),
   (refl, (refl, (refl, tt))),

@@ -13,6 +13,7 @@ use Rattle.rules.specs.Osc.{recognised, oscAfter}
 use Rattle.rules.specs.Parts.{partBy}
 use Rattle.rules.specs.Records.{recordRefusals, recordPart, findRecord, deciding, recordIn}
 use Rattle.rules.specs.Rom.{imageRefusals, imagePart, findImage, imageIn}
+use Rattle.rules.specs.Writer.{writeRefusals, writtenBy, bufferBy, writeRecords}
 use Rattle.rules.specs.Calls.{osc, Call, on, locate, numberAt, outcomeBy, bridgeBy, locateBy, locateRefusals, placeBy, windowOf, located, step, listed, zeros, lent, zerosOf, lentTo, tableAfter}
 use Rattle.rules.specs.History.{historyFrom}
 use Rattle.rules.specs.Claims.{RefusalsExactly, RefusedChangesNothing, TablesSound, History, QueriesChangeNothing, HeldUntilReset, ThereAndBack, BackAndThere, OneAddress, Separation, Negotiation}
@@ -30,6 +31,7 @@ use Rattle.rules.proofs.Negotiation.{negotiated}
 use Rattle.rules.specs.declared.FoundAt.{FoundAt}
 use Rattle.rules.specs.declared.Place.{Place}
 use Rattle.rules.specs.declared.Holding.{Holding}
+use Rattle.rules.specs.declared.Settings.{Settings}
 
 -- ---- refusals
 
@@ -42,6 +44,10 @@ part-number : {A : Type 0} (p : A → FoundAt) → ((x : A) → p x .number ≡ 
 part-number p z zero none = refl
 part-number p z zero (some x) = z x
 part-number p z (suc k) o = refl
+
+write-number : (s : Settings) (k : ℕ) → writtenBy k s .number ≡ k
+write-number s zero = refl
+write-number s (suc k) = refl
 
 call-number : (t : Table) (c : Call) → step t c .outcome .number ≡ firstOf (listed t c)
 unfolding step
@@ -61,6 +67,7 @@ refusals-exactly = (
       (part-number recordPart (λ f. refl) (firstOf (recordRefusals slot block type)) (recordIn (deciding slot block) type)),
   λ rom vendor device codeType k. by-list (findImage rom vendor device codeType .number) k (imageRefusals rom vendor device codeType)
       (part-number imagePart (λ m. refl) (firstOf (imageRefusals rom vendor device codeType)) (imageIn rom vendor device codeType)),
+  λ s buffer k. by-list (writeRecords s buffer .number) k (writeRefusals s buffer) (write-number s (firstOf (writeRefusals s buffer))),
 )
 
 -- ---- refused calls
@@ -89,6 +96,10 @@ part-refused p z zero none r = (refl, refl)
 part-refused p z zero (some x) r = absurd (r (z x))
 part-refused p z (suc k) o r = (refl, refl)
 
+write-refused : (s : Settings) (buffer : List ℕ) (k : ℕ) → (writtenBy k s .number ≡ 0 → ⊥) → (writtenBy k s .length ≡ 0) × (bufferBy k s buffer ≡ buffer)
+write-refused s buffer zero r = absurd (r refl)
+write-refused s buffer (suc k) r = (refl, refl)
+
 pub refused-changes-nothing : RefusedChangesNothing
 unfolding startTable
 refused-changes-nothing = (
@@ -97,6 +108,7 @@ refused-changes-nothing = (
   λ slot block type. part-refused recordPart (λ f. refl) (firstOf (recordRefusals slot block type)) (recordIn (deciding slot block) type),
   λ rom vendor device codeType.
       part-refused imagePart (λ m. refl) (firstOf (imageRefusals rom vendor device codeType)) (imageIn rom vendor device codeType),
+  λ s buffer. write-refused s buffer (firstOf (writeRefusals s buffer)),
 )
 
 -- ---- tables

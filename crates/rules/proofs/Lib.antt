@@ -18,5 +18,11 @@ pub mod Negotiation
 pub mod Claims
 pub mod Records
 pub mod Rom
+pub mod Bytes
+pub mod Rising
+pub mod Whole
+pub mod Laying
+pub mod Again
+pub mod Writing
 pub mod Buffers
 pub mod AllClaims

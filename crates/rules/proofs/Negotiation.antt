@@ -3,13 +3,11 @@
 use mathlib.Core.Path.{_≡_, refl, sym, ap, ap₂, _∙_, subst}
 use mathlib.Core.Bool.{true, false, not, _&&_}
 use mathlib.Core.List.{List, _∷_, _++_}
-use Prim.Native.Nat.{ℕ, _+_, _*_, _/_, _%_, _^_, _<_}
-use native.Mathlib.Nat.{mod-eq-of-lt}
+use Prim.Native.Nat.{ℕ, _^_, _<_}
 use native.Mathlib.Omega.{arith}
 use borrow.Author.Tests.{eq-eqb, lt-leb}
 use lib.Bits.{bitOr, and-self}
 use lib.ListN.{length}
-use lib.Pow.{shr-shr, shr-lt, split}
 use Rattle.rules.specs.Numbers.{le32}
 use Rattle.rules.specs.Tables.{holding, withHolding, owns, bridgeAt, fixed}
 use Rattle.rules.specs.Start.{Sound}
@@ -22,6 +20,7 @@ use Rattle.rules.specs.declared.BridgeNumber.{BridgeNumber}
 use Rattle.rules.specs.declared.SessionNumber.{SessionNumber}
 use Rattle.rules.specs.declared.Table.{Table}
 use Rattle.rules.proofs.Tests.{and-off}
+use Rattle.rules.proofs.Bytes.{four-bytes}
 use Rattle.rules.proofs.Granting.{granted-lt, granted-support, granted-again}
 use Rattle.rules.proofs.Local.{fixed-after, same-bridges}
 use Rattle.rules.proofs.Soundness.{same-length}
@@ -29,14 +28,6 @@ use Rattle.rules.proofs.History.{history-from, history-next, in-array, 
 use Rattle.rules.specs.declared.Holding.{Holding}
 
 -- a DWORD read where it was written
-four-bytes : (x : ℕ) → x < 2 ^ 32 → x % 256 + x / 2 ^ 8 % 256 * 2 ^ 8 + (x / 2 ^ 16 % 256 + x / 2 ^ 24 % 256 * 2 ^ 8) * 2 ^ 16 ≡ x
-four-bytes x h =
-    let a : x / 2 ^ 24 % 256 ≡ x / 2 ^ 24 = mod-eq-of-lt (shr-lt 8 24 h) in
-    let b : x / 2 ^ 24 * 256 + x / 2 ^ 16 % 256 ≡ x / 2 ^ 16 = ap (λ (q : ℕ). q * 256 + x / 2 ^ 16 % 256) (sym (shr-shr x 16 8)) ∙ split (x / 2 ^ 16) 8 in
-    let c : x / 2 ^ 16 * 256 + x / 2 ^ 8 % 256 ≡ x / 2 ^ 8 = ap (λ (q : ℕ). q * 256 + x / 2 ^ 8 % 256) (sym (shr-shr x 8 8)) ∙ split (x / 2 ^ 8) 8 in
-    let d : x / 2 ^ 8 * 256 + x % 256 ≡ x = split x 8 in
-    omega arith
-
 read-status : (x y z : ℕ) → x < 2 ^ 32 → status (le32 x ++ le32 y ++ le32 z) ≡ x
 read-status x y z h = four-bytes x h
 

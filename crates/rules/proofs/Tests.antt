@@ -46,3 +46,14 @@ same-test false false f g = refl
 pub fails : (q : Bool) → (q ≡ true → ⊥) → q ≡ false
 fails true n = absurd (n refl)
 fails false n = refl
+
+-- tests joined from the left, as code does, are those of `every`
+pub three-joined : (a b c : Bool) → ((a && b) && c) ≡ (a && (b && (c && true)))
+three-joined false b c = refl
+three-joined true false c = refl
+three-joined true true false = refl
+three-joined true true true = refl
+
+pub four-joined : (a b c d : Bool) → (((a && b) && c) && d) ≡ (a && (b && (c && (d && true))))
+four-joined false b c d = refl
+four-joined true b c d = three-joined b c d

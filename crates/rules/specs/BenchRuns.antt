@@ -1,15 +1,16 @@
--- Example runs: starts, a run of two sessions on one table, record searches, images of a ROM, register values, grants and places.
+-- Example runs: starts, a run of two sessions on one table, record searches, written records, images of a ROM, register values, grants and places.
 use Prim.Native.Nat.{ℕ, zero, suc, _-_, _/_, _%_}
 use mathlib.Core.Bool.{true, false}
 use mathlib.Core.List.{List, [], _∷_, _++_}
 use lib.Dec.{leb}
-use lib.ListN.{take, set, replicate}
+use lib.ListN.{take, drop, set, replicate}
 use Rattle.rules.specs.Limits.{maxRom}
 use Rattle.rules.specs.Place.{placeBad, busOutside}
 use Rattle.rules.specs.Start.{StartInput, express, conventional, startNumber, bridgeOf, startTable}
 use Rattle.rules.specs.Osc.{uuidBytes}
 use Rattle.rules.specs.Records.{findRecord}
 use Rattle.rules.specs.Rom.{findImage}
+use Rattle.rules.specs.Writer.{presentIn, writeRecords, bufferAfter, readSettings, placeAmong, onlyRising}
 use Rattle.rules.specs.Calls.{osc, reset, report, address, registerValues, Call, on, locate, nothing, reported, addressed, located, values, outcome, outcomes}
 use Rattle.rules.specs.BenchSheet.{Line, _gives_, AllHold, oscOn, registersOn, newRegisters}
 use Rattle.rules.specs.declared.Bridge.{Bridge}
@@ -17,6 +18,8 @@ use Rattle.rules.specs.declared.BridgeNumber.{BridgeNumber}
 use Rattle.rules.specs.declared.BridgeRow.{BridgeRow}
 use Rattle.rules.specs.declared.SessionNumber.{SessionNumber}
 use Rattle.rules.specs.declared.FoundAt.{FoundAt}
+use Rattle.rules.specs.declared.Masks.{Masks}
+use Rattle.rules.specs.declared.Settings.{Settings}
 
 -- ---- starts
 
@@ -237,6 +240,170 @@ searches =
     ∷ (findRecord [] (0x03 ∷ 0xFE ∷ 0x0F ∷ replicate 4094 0) 0 gives found 8 0 0)
     ∷ []
 
+-- ---- written records, document 02, g
+
+-- the settings of types01; for register k the masks 0xA3A2A1F0 + k and 0x83828180 + k, of Device Control and Link Control the low halves; by the three flags
+abbrev pub settings : (pci pciX express : ℕ) → Settings
+settings a b c = record {
+  pci = record { «cache_line_size» = 8; «latency_timer» = 0x40; «enable_serr» = 1; «enable_perr» = 0 };
+  «pci_x» = record {
+    «maximum_memory_read_byte_count» = 3;
+    «average_maximum_outstanding_split_transactions» = 4;
+    «total_maximum_outstanding_split_transactions» = 7;
+  };
+  express = record {
+    «uncorrectable_error_mask» = record { and = 0xA3A2A1F0; or = 0x83828180 };
+    «uncorrectable_error_severity» = record { and = 0xA3A2A1F1; or = 0x83828181 };
+    «correctable_error_mask» = record { and = 0xA3A2A1F2; or = 0x83828182 };
+    «advanced_error_capabilities_and_control» = record { and = 0xA3A2A1F3; or = 0x83828183 };
+    «device_control» = record { and = 0xA1F4; or = 0x8184 };
+    «link_control» = record { and = 0xA1F5; or = 0x8185 };
+    «secondary_uncorrectable_error_severity» = record { and = 0xA3A2A1F6; or = 0x83828186 };
+    «secondary_uncorrectable_error_mask» = record { and = 0xA3A2A1F7; or = 0x83828187 };
+  };
+  «has_pci» = a;
+  «has_pci_x» = b;
+  «has_express» = c;
+}
+
+-- the type 2 record of these
+abbrev pub expressRecord : List ℕ
+expressRecord =
+    2 ∷ 0x44 ∷ 0 ∷ 1 ∷ 0 ∷ 0 ∷ 0
+    ∷ 0xF0 ∷ 0xA1 ∷ 0xA2 ∷ 0xA3 ∷ 0x80 ∷ 0x81 ∷ 0x82 ∷ 0x83
+    ∷ 0xF1 ∷ 0xA1 ∷ 0xA2 ∷ 0xA3 ∷ 0x81 ∷ 0x81 ∷ 0x82 ∷ 0x83
+    ∷ 0xF2 ∷ 0xA1 ∷ 0xA2 ∷ 0xA3 ∷ 0x82 ∷ 0x81 ∷ 0x82 ∷ 0x83
+    ∷ 0xF3 ∷ 0xA1 ∷ 0xA2 ∷ 0xA3 ∷ 0x83 ∷ 0x81 ∷ 0x82 ∷ 0x83
+    ∷ 0xF4 ∷ 0xA1 ∷ 0 ∷ 0 ∷ 0x84 ∷ 0x81 ∷ 0 ∷ 0
+    ∷ 0xF5 ∷ 0xA1 ∷ 0 ∷ 0 ∷ 0x85 ∷ 0x81 ∷ 0 ∷ 0
+    ∷ 0xF6 ∷ 0xA1 ∷ 0xA2 ∷ 0xA3 ∷ 0x86 ∷ 0x81 ∷ 0x82 ∷ 0x83
+    ∷ 0xF7 ∷ 0xA1 ∷ 0xA2 ∷ 0xA3 ∷ 0x87 ∷ 0x81 ∷ 0x82 ∷ 0x83 ∷ []
+
+-- settings of one type alone, with other values
+abbrev pub pciAlone : (cache latency serr perr : ℕ) → Settings
+pciAlone a b c d =
+    let s = settings 1 0 0 in
+    record {
+      pci = record { «cache_line_size» = a; «latency_timer» = b; «enable_serr» = c; «enable_perr» = d };
+      «pci_x» = s .«pci_x»;
+      express = s .express;
+      «has_pci» = 1;
+      «has_pci_x» = 0;
+      «has_express» = 0;
+    }
+
+abbrev pub pciXAlone : (read average total : ℕ) → Settings
+pciXAlone a b c =
+    let s = settings 0 1 0 in
+    record {
+      pci = s .pci;
+      «pci_x» = record {
+        «maximum_memory_read_byte_count» = a;
+        «average_maximum_outstanding_split_transactions» = b;
+        «total_maximum_outstanding_split_transactions» = c;
+      };
+      express = s .express;
+      «has_pci» = 0;
+      «has_pci_x» = 1;
+      «has_express» = 0;
+    }
+
+-- every mask 0xFFFFFFFF but those of Device Control and Link Control; the flags say that type 2 is present, or that none is
+abbrev pub masksAlone : (express deviceAnd deviceOr linkAnd linkOr : ℕ) → Settings
+masksAlone flag a b c d =
+    let s = settings 0 0 1 in
+    let all : Masks = record { and = 0xFFFFFFFF; or = 0xFFFFFFFF } in
+    record {
+      pci = s .pci;
+      «pci_x» = s .«pci_x»;
+      express = record {
+        «uncorrectable_error_mask» = all;
+        «uncorrectable_error_severity» = all;
+        «correctable_error_mask» = all;
+        «advanced_error_capabilities_and_control» = all;
+        «device_control» = record { and = a; or = b };
+        «link_control» = record { and = c; or = d };
+        «secondary_uncorrectable_error_severity» = all;
+        «secondary_uncorrectable_error_mask» = all;
+      };
+      «has_pci» = 0;
+      «has_pci_x» = 0;
+      «has_express» = flag;
+    }
+
+-- what the writer hands back, and the buffer after it
+pub record Wrote : Type 0 where
+  pub number : ℕ
+  pub length : ℕ
+  pub buffer : List ℕ
+
+abbrev pub write : Settings → List ℕ → Wrote
+write s b = record { number = writeRecords s b .number; length = writeRecords s b .length; buffer = bufferAfter s b }
+
+-- the number for a buffer that has room
+abbrev pub numberOf : Settings → ℕ
+numberOf s = writeRecords s (replicate 113 0) .number
+
+-- a buffer of n bytes
+abbrev pub lentBytes : ℕ → List ℕ
+lentBytes n = replicate n 0xAA
+
+abbrev pub writes : List Line
+writes =
+    -- all three: 113 bytes, and a byte more; 112 bytes
+    (write (settings 1 1 1) (lentBytes 113) gives record { number = 0; length = 113; buffer = types01 ++ expressRecord })
+    ∷ (write (settings 1 1 1) (lentBytes 114) gives record { number = 0; length = 113; buffer = types01 ++ expressRecord ++ 0xAA ∷ [] })
+    ∷ (write (settings 1 1 1) (lentBytes 112) gives record { number = 15; length = 0; buffer = lentBytes 112 })
+    -- one alone, and a byte less; any flag but 0; types 0 and 2, 0 and 1, 1 and 2
+    ∷ (write (settings 1 0 0) (lentBytes 23) gives record { number = 0; length = 23; buffer = take 23 types01 })
+    ∷ (write (settings 1 0 0) (lentBytes 22) gives record { number = 15; length = 0; buffer = lentBytes 22 })
+    ∷ (write (settings 0 255 0) (lentBytes 19) gives record { number = 0; length = 19; buffer = drop 23 types01 })
+    ∷ (write (settings 0 255 0) (lentBytes 18) gives record { number = 15; length = 0; buffer = lentBytes 18 })
+    ∷ (write (settings 0 0 2) (lentBytes 72) gives record { number = 0; length = 71; buffer = expressRecord ++ 0xAA ∷ [] })
+    ∷ (write (settings 0 0 2) (lentBytes 70) gives record { number = 15; length = 0; buffer = lentBytes 70 })
+    ∷ (write (settings 1 0 1) (lentBytes 94) gives record { number = 0; length = 94; buffer = take 23 types01 ++ expressRecord })
+    ∷ (write (settings 1 1 0) (lentBytes 44) gives record { number = 0; length = 42; buffer = types01 ++ 0xAA ∷ 0xAA ∷ [] })
+    ∷ (write (settings 0 1 1) (lentBytes 90) gives record { number = 0; length = 90; buffer = drop 23 types01 ++ expressRecord })
+    -- none
+    ∷ (write (settings 0 0 0) [] gives record { number = 0; length = 0; buffer = [] })
+    ∷ (write (settings 0 0 0) (lentBytes 3) gives record { number = 0; length = 0; buffer = lentBytes 3 })
+    -- a value out of its range and no room: 14 first; values of absent records
+    ∷ (write (pciAlone 256 0 0 0) [] gives record { number = 14; length = 0; buffer = [] })
+    ∷ (write (pciAlone 256 0 0 0) (lentBytes 24) gives record { number = 14; length = 0; buffer = lentBytes 24 })
+    ∷ (write (masksAlone 0 65536 65536 65536 65536) [] gives record { number = 0; length = 0; buffer = [] })
+    -- each range at its limit, and one past it
+    ∷ (numberOf (pciAlone 255 255 1 1) gives 0)
+    ∷ (numberOf (pciAlone 256 255 1 1) gives 14)
+    ∷ (numberOf (pciAlone 255 256 1 1) gives 14)
+    ∷ (numberOf (pciAlone 255 255 2 1) gives 14)
+    ∷ (numberOf (pciAlone 255 255 1 2) gives 14)
+    ∷ (numberOf (pciXAlone 3 7 7) gives 0)
+    ∷ (numberOf (pciXAlone 4 7 7) gives 14)
+    ∷ (numberOf (pciXAlone 3 8 7) gives 14)
+    ∷ (numberOf (pciXAlone 3 7 8) gives 14)
+    ∷ (numberOf (masksAlone 1 65535 65535 65535 65535) gives 0)
+    ∷ (numberOf (masksAlone 1 65536 65535 65535 65535) gives 14)
+    ∷ (numberOf (masksAlone 1 65535 65536 65535 65535) gives 14)
+    ∷ (numberOf (masksAlone 1 65535 65535 65536 65535) gives 14)
+    ∷ (numberOf (masksAlone 1 65535 65535 65535 65536) gives 14)
+    ∷ []
+
+-- blocks read, and which of them hold only revision 1 records of types 0 to 2 in rising order
+abbrev pub reads : List Line
+reads =
+    (readSettings (types01 ++ expressRecord) gives settings 1 1 1)
+    ∷ (presentIn (readSettings (drop 23 types01)) gives presentIn (settings 0 1 0))
+    ∷ (presentIn (readSettings (set types01 3 2)) gives presentIn (settings 0 1 0))
+    ∷ (presentIn (readSettings []) gives [])
+    ∷ (placeAmong 2 0 (presentIn (settings 1 0 1)) gives found 0 23 71)
+    ∷ (placeAmong 1 0 (presentIn (settings 1 0 1)) gives found 9 0 0)
+    ∷ (onlyRising (types01 ++ expressRecord) gives true)
+    ∷ (onlyRising [] gives true)
+    ∷ (onlyRising (drop 23 types01 ++ take 23 types01) gives false)
+    ∷ (onlyRising (types01 ++ skipped) gives false)
+    ∷ (onlyRising (set types01 3 2) gives false)
+    ∷ []
+
 -- ---- images of a ROM, document 02, a
 
 -- a structure of 24 bytes; its device list pointer is 0x18
@@ -351,4 +518,4 @@ places =
     ∷ []
 
 abbrev pub ExampleRuns : Type 0
-ExampleRuns = AllHold starts × AllHold run × AllHold searches × AllHold images × AllHold romSizes × AllHold registers × AllHold grants × AllHold places
+ExampleRuns = AllHold starts × AllHold run × AllHold searches × AllHold writes × AllHold reads × AllHold images × AllHold romSizes × AllHold registers × AllHold grants × AllHold places

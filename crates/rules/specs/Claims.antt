@@ -3,7 +3,7 @@
 use mathlib.Core.Path.{_≡_}
 use mathlib.Core.Logic.{_↔_, _⊎_}
 use mathlib.Core.Bool.{Bool, true, false}
-use mathlib.Core.List.{List, [], _∷_, map}
+use mathlib.Core.List.{List, [], _∷_, _++_, map}
 use mathlib.Core.Option.{some}
 use Prim.Native.Nat.{ℕ, _+_, _*_, _≤_, _<_}
 use lib.Bits.{bitOr}
@@ -16,8 +16,9 @@ use Rattle.rules.specs.Tables.{nothingHeld, holding, cleared, owns, brid
 use Rattle.rules.specs.Place.{InReach}
 use Rattle.rules.specs.Start.{StartInput, startRefusals, startNumber, startTable, tableOf, Sound}
 use Rattle.rules.specs.Osc.{grantedBit, granted, uuidBytes, status, query, control}
-use Rattle.rules.specs.Records.{deciding, recordRefusals, findRecord}
+use Rattle.rules.specs.Records.{blockSound, deciding, recordRefusals, findRecord}
 use Rattle.rules.specs.Rom.{imageSignature, structureAt, imagesOf, romSound, imageRefusals, findImage, Chain}
+use Rattle.rules.specs.Writer.{Setting, presentIn, writeRefusals, writeRecords, bufferAfter, readSettings, placeAmong, onlyRising, areDwords, areBytes}
 use Rattle.rules.specs.Calls.{osc, reset, address, Call, on, locate, Result, addressed, located, Outcome, outcome, step, listed, zerosOf, lentTo, tableAfter, sessionOf, callsOf, outcomesOf, widthOf}
 use Rattle.rules.specs.History.{reaches, historyStep, historyFrom}
 use Rattle.rules.specs.declared.Bridge.{Bridge}
@@ -28,6 +29,7 @@ use Rattle.rules.specs.declared.FoundAt.{FoundAt}
 use Rattle.rules.specs.declared.Image.{Image}
 use Rattle.rules.specs.declared.Place.{Place}
 use Rattle.rules.specs.declared.Holding.{Holding}
+use Rattle.rules.specs.declared.Settings.{Settings}
 
 -- ---- the tests over lists and the granted set mean what they say
 
@@ -47,6 +49,7 @@ RefusalsExactly =
     × ((x : StartInput) (k : ℕ) → startNumber x ≡ k ↔ GivenBy k (startRefusals x))
     × ((slot block : List ℕ) (type k : ℕ) → findRecord slot block type .number ≡ k ↔ GivenBy k (recordRefusals slot block type))
     × ((rom : List ℕ) (vendor device codeType k : ℕ) → findImage rom vendor device codeType .number ≡ k ↔ GivenBy k (imageRefusals rom vendor device codeType))
+    × ((s : Settings) (buffer : List ℕ) (k : ℕ) → writeRecords s buffer .number ≡ k ↔ GivenBy k (writeRefusals s buffer))
 
 -- "A refused call hands back zeros (or the empty part) beside its number and changes nothing"
 abbrev pub RefusedChangesNothing : Type 0
@@ -57,6 +60,7 @@ RefusedChangesNothing =
     × ((slot block : List ℕ) (type : ℕ) → (findRecord slot block type .number ≡ 0 → ⊥) → (findRecord slot block type .start ≡ 0) × (findRecord slot block type .size ≡ 0))
     × ((rom : List ℕ) (vendor device codeType : ℕ) → (findImage rom vendor device codeType .number ≡ 0 → ⊥)
     → (findImage rom vendor device codeType .start ≡ 0) × (findImage rom vendor device codeType .size ≡ 0))
+    × ((s : Settings) (buffer : List ℕ) → (writeRecords s buffer .number ≡ 0 → ⊥) → (writeRecords s buffer .length ≡ 0) × (bufferAfter s buffer ≡ buffer))
 
 -- "a full answer buffer": a call leaves every lent buffer as long as it was
 abbrev pub BuffersKeepLength : Type 0
@@ -82,6 +86,35 @@ ImagePart = (rom : List ℕ) (vendor device codeType : ℕ)
 -- a ROM is sound exactly where it has a chain of sound images from its first byte to a last image, and these are then its images
 abbrev pub SoundChain : Type 0
 SoundChain = (rom : List ℕ) (r : List Image) → ((romSound rom ≡ true) × (imagesOf rom ≡ some r)) ↔ ((length rom ≤ maxRom) × Chain rom 0 r)
+
+-- ---- document 02, g: what is written
+
+-- the part of the buffer that the writer hands back the length of
+abbrev pub writtenPart : Settings → (buffer : List ℕ) → List ℕ
+writtenPart s buffer = take (writeRecords s buffer .length) (bufferAfter s buffer)
+
+-- every number of a present record is one that a u32 holds, as those of the code are
+abbrev pub SettingsFit : Settings → Type 0
+SettingsFit s = every (λ (r : Setting). areDwords (r .numbers)) (presentIn s) ≡ true
+
+-- what is written lies in the buffer, leaves the rest untouched, and is a sound block of revision 1 records of types 0 to 2 in rising order
+abbrev pub WrittenSound : Type 0
+WrittenSound = (s : Settings) (buffer : List ℕ) → SettingsFit s → writeRecords s buffer .number ≡ 0
+    → let n : ℕ = writeRecords s buffer .length in
+    (n ≤ length buffer) × (drop n (bufferAfter s buffer) ≡ drop n buffer) × (length (bufferAfter s buffer) ≡ length buffer)
+    × (blockSound (writtenPart s buffer) ≡ true) × (onlyRising (writtenPart s buffer) ≡ true)
+
+-- "Reading what was written gives the same records": the record search finds each present one at its place, and no other
+abbrev pub WrittenReadBack : Type 0
+WrittenReadBack = (s : Settings) (buffer : List ℕ) → SettingsFit s → writeRecords s buffer .number ≡ 0
+    → (presentIn (readSettings (writtenPart s buffer)) ≡ presentIn s)
+    × ((type : ℕ) → findRecord [] (writtenPart s buffer) type ≡ placeAmong type 0 (presentIn s))
+
+-- "A sound block that holds only revision 1 records of types 0 to 2, in rising order, read and written again gives the same bytes"
+abbrev pub ReadWrittenAgain : Type 0
+ReadWrittenAgain = (block buffer : List ℕ) → areBytes block ≡ true → blockSound block ≡ true → onlyRising block ≡ true → length block ≤ length buffer
+    → (writeRecords (readSettings block) buffer ≡ record { number = 0; length = length block })
+    × (bufferAfter (readSettings block) buffer ≡ block ++ drop (length block) buffer)
 
 -- ---- what start leaves and every call keeps
 

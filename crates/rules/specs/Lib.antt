@@ -10,6 +10,7 @@ pub mod Start
 pub mod Parts
 pub mod Records
 pub mod Rom
+pub mod Writer
 pub mod Calls
 pub mod History
 pub mod Claims

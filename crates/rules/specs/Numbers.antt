@@ -1,7 +1,7 @@
 -- Numbers in bytes, little-endian, and numbers as sets of bits.
 use Prim.Native.Nat.{ℕ, zero, suc, _+_, _*_, _/_, _%_, _^_}
 use mathlib.Core.Bool.{Bool, true, false, cond, _&&_}
-use mathlib.Core.List.{List, [], _∷_}
+use mathlib.Core.List.{List, [], _∷_, _++_}
 use lib.Dec.{eqb}
 use lib.ListN.{getD}
 use lib.Bits.{bitAnd}
@@ -20,9 +20,16 @@ dword l i = word l i + word l (2 + i) * 2 ^ 16
 abbrev pub qword : List ℕ → ℕ → ℕ
 qword l i = dword l i + dword l (4 + i) * 2 ^ 32
 
--- a DWORD as bytes
+-- a WORD and a DWORD as bytes, and DWORDs one after the other
+abbrev pub le16 : ℕ → List ℕ
+le16 x = x % 256 ∷ x / 2 ^ 8 % 256 ∷ []
+
 abbrev pub le32 : ℕ → List ℕ
 le32 x = x % 256 ∷ x / 2 ^ 8 % 256 ∷ x / 2 ^ 16 % 256 ∷ x / 2 ^ 24 % 256 ∷ []
+
+abbrev pub dwords : List ℕ → List ℕ
+dwords [] = []
+dwords (x ∷ v) = le32 x ++ dwords v
 
 -- all bytes added
 abbrev pub sum : List ℕ → ℕ

@@ -52,20 +52,47 @@ deviceControl = 4
 abbrev pub linkControl : ℕ
 linkControl = 5
 
--- type 2: "eight AND/OR pairs", that of register k
+-- type 2: "eight AND/OR pairs", which numbers those of register k are
+abbrev pub andNumber : ℕ → ℕ
+andNumber k = 1 + 2 * k
+
+abbrev pub orNumber : ℕ → ℕ
+orNumber k = 2 + 2 * k
+
+-- the masks of register k
 abbrev pub andMask : List ℕ → Field → ℕ → ℕ
-andMask l f k = value l f (1 + 2 * k)
+andMask l f k = value l f (andNumber k)
 
 abbrev pub orMask : List ℕ → Field → ℕ → ℕ
-orMask l f k = value l f (2 + 2 * k)
+orMask l f k = value l f (orNumber k)
 
--- the values of types 0, 1 and 2 (document 002, tables 6-7 to 6-9)
-abbrev pub valuesSound : List ℕ → Field → ℕ → Bool
-valuesSound l f zero = leb (value l f 1) 255 && leb (value l f 2) 255 && leb (value l f 3) 1 && leb (value l f 4) 1
-valuesSound l f (suc zero) = leb (value l f 1) 3 && leb (value l f 2) 7 && leb (value l f 3) 7
-valuesSound l f (suc (suc n)) =
-    leb (andMask l f deviceControl) 65535 && leb (orMask l f deviceControl) 65535
-    && leb (andMask l f linkControl) 65535 && leb (orMask l f linkControl) 65535
+-- a range: which number of the value, and what it is at most
+pub record Range : Type 0 where
+  pub number : ℕ
+  pub most : ℕ
+
+infix 40 _atMost_
+abbrev pub _atMost_ : (number most : ℕ) → Range
+k atMost m = record { number = k; most = m }
+
+-- the ranges of types 0, 1 and 2 (document 002, tables 6-7 to 6-9), once for the search and for the writer of document 02, g
+abbrev pub ranges : ℕ → List Range
+-- "cache line and latency at most 255, SERR and PERR 0 or 1"
+ranges zero = (1 atMost 255) ∷ (2 atMost 255) ∷ (3 atMost 1) ∷ (4 atMost 1) ∷ []
+-- "read count at most 3, both split counts at most 7"
+ranges (suc zero) = (1 atMost 3) ∷ (2 atMost 7) ∷ (3 atMost 7) ∷ []
+-- "those of Device Control and Link Control at most 65535"
+ranges (suc (suc n)) =
+    (andNumber deviceControl atMost 65535) ∷ (orNumber deviceControl atMost 65535)
+    ∷ (andNumber linkControl atMost 65535) ∷ (orNumber linkControl atMost 65535) ∷ []
+
+-- the number that a range speaks of is in it, where v k is number k
+abbrev pub inRange : (ℕ → ℕ) → Range → Bool
+inRange v r = leb (v (r .number)) (r .most)
+
+-- every range of the type holds
+abbrev pub inRanges : ℕ → (ℕ → ℕ) → Bool
+inRanges type v = every (inRange v) (ranges type)
 
 -- what is sound of one field
 abbrev pub fieldSound : List ℕ → Field → Bool
@@ -73,7 +100,7 @@ fieldSound l f =
     ltb 2 (f .tag)  -- tags above 2 are skipped whatever their value
     || (leb 4 (f .size) && eqb (f .size % 4) 0  -- a length of at least 4, a multiple of 4
     && (not (eqb (value l f 0) 1)  -- a revision other than 1 is skipped
-    || (eqb (f .size) (recordSize (f .tag)) && valuesSound l f (f .tag))))
+    || (eqb (f .size) (recordSize (f .tag)) && inRanges (f .tag) (value l f))))
 
 -- "at most once each"
 abbrev pub notTwice : List ℕ → Field → Field → Bool

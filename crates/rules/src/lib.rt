@@ -81,6 +81,56 @@ pub struct Image {
     pub size: usize,
 }
 
+// ---- document 02, g: setting records as values, with no revision, in the field order of document 002
+
+// Type 0, a PCI setting record (002, table 6-7).
+#[repr(C)]
+pub struct PciSetting {
+    pub cache_line_size: u32,
+    pub latency_timer: u32,
+    pub enable_serr: u32,
+    pub enable_perr: u32,
+}
+
+// Type 1, a PCI-X setting record (002, table 6-8).
+#[repr(C)]
+pub struct PciXSetting {
+    pub maximum_memory_read_byte_count: u32,
+    pub average_maximum_outstanding_split_transactions: u32,
+    pub total_maximum_outstanding_split_transactions: u32,
+}
+
+// A register's AND mask and OR mask.
+#[repr(C)]
+pub struct Masks {
+    pub and: u32,
+    pub or: u32,
+}
+
+// Type 2, a PCI Express setting record (002, table 6-9).
+#[repr(C)]
+pub struct ExpressSetting {
+    pub uncorrectable_error_mask: Masks,
+    pub uncorrectable_error_severity: Masks,
+    pub correctable_error_mask: Masks,
+    pub advanced_error_capabilities_and_control: Masks,
+    pub device_control: Masks,
+    pub link_control: Masks,
+    pub secondary_uncorrectable_error_severity: Masks,
+    pub secondary_uncorrectable_error_mask: Masks,
+}
+
+// At most one record of each known type: any number but 0 says that it is present; the values of one that is not count for nothing.
+#[repr(C)]
+pub struct Settings {
+    pub pci: PciSetting,
+    pub pci_x: PciXSetting,
+    pub express: ExpressSetting,
+    pub has_pci: u8,
+    pub has_pci_x: u8,
+    pub has_express: u8,
+}
+
 // What a search of lent bytes gives, the record search and the image search: its number, and where the part of them starts and its length, header included.
 #[repr(C)]
 pub struct FoundAt {
@@ -137,4 +187,11 @@ pub struct RecordAt {
 pub struct Values {
     pub number: u8,
     pub values: [u32; 8],
+}
+
+// The writer's: how many bytes at the start of the buffer are the block.
+#[repr(C)]
+pub struct Written {
+    pub number: u8,
+    pub length: usize,
 }

@@ -4,10 +4,11 @@
 use mathlib.Core.Path.{_≡_, refl, sym, ap, subst, _∙_}
 use mathlib.Core.Logic.{_↔_, _⊎_}
 use mathlib.Core.Bool.{Bool, true, false, cond}
-use mathlib.Core.List.{List, [], _∷_, map}
+use mathlib.Core.List.{List, [], _∷_, _++_, map}
 use Prim.Native.Nat.{ℕ, suc, _+_, _*_, _≤_, _<_}
 use native.Mathlib.Omega.{arith}
 use lib.Bits.{bitOr}
+use lib.Dec.{ltb}
 use lib.ListN.{length, getD, take, drop}
 use mathlib.Core.Option.{some}
 use Rattle.rules.specs.Limits.{maxRom}
@@ -18,13 +19,14 @@ use Rattle.rules.specs.Tables.{nothingHeld, holding, cleared, owns, bridgeAt}
 use Rattle.rules.specs.Place.{InReach}
 use Rattle.rules.specs.Start.{StartInput, startRefusals, startNumber, startTable, tableOf, Sound}
 use Rattle.rules.specs.Osc.{grantedBit, granted, status, query, control}
-use Rattle.rules.specs.Records.{deciding, recordRefusals, findRecord}
+use Rattle.rules.specs.Records.{blockSound, deciding, recordRefusals, findRecord}
 use Rattle.rules.specs.Rom.{imageSignature, structureAt, imagesOf, romSound, imageRefusals, findImage, Chain}
+use Rattle.rules.specs.Writer.{Setting, presentIn, writeRefusals, writeRecords, bufferAfter, readSettings, placeAmong, onlyRising}
 use Rattle.rules.specs.Calls.{Call, on, osc, reset, locate, Result, addressed, located, Outcome, outcome, step, listed, zerosOf, lentTo, tableAfter, outcomes, isUnder, callsOf, outcomesOf}
 use Rattle.rules.specs.History.{reaches, historyFrom}
 use Rattle.rules.specs.Claims.{addressCall, answers, Given, Separate, Buffers, rightCall, answerOf, Undisturbed, atTaking, secondOutcome, takingOutcome, returned, Negotiated}
 use Rattle.rules.specs.BenchSheet.{AllHold, sheet}
-use Rattle.rules.specs.BenchRuns.{starts, run, searches, images, romSizes, registers, grants, places}
+use Rattle.rules.specs.BenchRuns.{starts, run, searches, writes, reads, images, romSizes, registers, grants, places}
 use Rattle.rules.specs.declared.Table.{Table}
 use Rattle.rules.specs.declared.Bridge.{Bridge}
 use Rattle.rules.specs.declared.FoundAt.{FoundAt}
@@ -32,6 +34,7 @@ use Rattle.rules.specs.declared.Image.{Image}
 use Rattle.rules.specs.declared.Place.{Place}
 use Rattle.rules.specs.declared.BridgeNumber.{BridgeNumber}
 use Rattle.rules.specs.declared.SessionNumber.{SessionNumber}
+use Rattle.rules.specs.declared.Settings.{Settings}
 use Rattle.rules.proofs.AllClaims.{all-claims}
 
 -- ---- calls made one after the other
@@ -85,6 +88,9 @@ exactly-search = all-claims .refusals-exactly .2
 pub exactly-image : (rom : List ℕ) (vendor device codeType k : ℕ) → findImage rom vendor device codeType .number ≡ k ↔ GivenBy k (imageRefusals rom vendor device codeType)
 exactly-image = all-claims .refusals-exactly .3
 
+pub exactly-write : (s : Settings) (buffer : List ℕ) (k : ℕ) → writeRecords s buffer .number ≡ k ↔ GivenBy k (writeRefusals s buffer)
+exactly-write = all-claims .refusals-exactly .4
+
 not-zero : (n k : ℕ) → n ≡ suc k → n ≡ 0 → ⊥
 not-zero n k e z = let f : suc k ≡ 0 = sym e ∙ z in absurd (omega arith)
 
@@ -120,6 +126,11 @@ refused-image rom vendor device codeType k g =
     all-claims .refused-changes-nothing .3 rom vendor device codeType
     (not-zero (findImage rom vendor device codeType .number) k (exactly-image rom vendor device codeType (suc k) .1 g))
 
+pub refused-write : (s : Settings) (buffer : List ℕ) (k : ℕ) → GivenBy (suc k) (writeRefusals s buffer)
+    → (writeRecords s buffer .length ≡ 0) × (bufferAfter s buffer ≡ buffer)
+refused-write s buffer k g =
+    all-claims .refused-changes-nothing .4 s buffer (not-zero (writeRecords s buffer .number) k (exactly-write s buffer (suc k) .1 g))
+
 pub same-lengths : (t : Table) (c : Call) → map length (step t c .outcome .left) ≡ map length (lentTo c)
 same-lengths = all-claims .buffers-keep-length
 
@@ -138,6 +149,25 @@ image-inside = all-claims .image-part
 
 pub chain-sound : (rom : List ℕ) (r : List Image) → ((romSound rom ≡ true) × (imagesOf rom ≡ some r)) ↔ ((length rom ≤ maxRom) × Chain rom 0 r)
 chain-sound = all-claims .sound-chain
+
+-- ---- document 02, g: written, read, and written again
+
+module _ (s : Settings) (buffer : List ℕ) (fit : every (λ (r : Setting). every (λ x. ltb x 4294967296) (r .numbers)) (presentIn s) ≡ true) (z : writeRecords s buffer .number ≡ 0) where
+  abbrev part : List ℕ
+  part = take (writeRecords s buffer .length) (bufferAfter s buffer)
+
+  pub sound-written : let n : ℕ = writeRecords s buffer .length in
+      (n ≤ length buffer) × (drop n (bufferAfter s buffer) ≡ drop n buffer) × (length (bufferAfter s buffer) ≡ length buffer)
+      × (blockSound part ≡ true) × (onlyRising part ≡ true)
+  sound-written = all-claims .written-sound s buffer fit z
+
+  pub read-back : (presentIn (readSettings part) ≡ presentIn s) × ((type : ℕ) → findRecord [] part type ≡ placeAmong type 0 (presentIn s))
+  read-back = all-claims .written-read-back s buffer fit z
+
+pub written-again : (block buffer : List ℕ) → every (λ x. ltb x 256) block ≡ true → blockSound block ≡ true → onlyRising block ≡ true → length block ≤ length buffer
+    → (writeRecords (readSettings block) buffer ≡ record { number = 0; length = length block })
+    × (bufferAfter (readSettings block) buffer ≡ block ++ drop (length block) buffer)
+written-again = all-claims .read-written-again
 
 -- ---- demand 2, of a list of calls made
 
@@ -254,8 +284,8 @@ pub granted-bits : (b : Bridge) (support requested i : ℕ) → bit (granted b s
 granted-bits = all-claims .granted-bits
 
 -- as many lines as there are, and all hold
-pub lines : AllHold sheet × (AllHold starts × AllHold run × AllHold searches × AllHold images × AllHold romSizes × AllHold registers × AllHold grants × AllHold places)
+pub lines : AllHold sheet × (AllHold starts × AllHold run × AllHold searches × AllHold writes × AllHold reads × AllHold images × AllHold romSizes × AllHold registers × AllHold grants × AllHold places)
 lines = (all-claims .bench-sheet, all-claims .example-runs)
 
-pub how-many : (length sheet ≡ 13) × (length starts ≡ 28) × (length run ≡ 1) × (length searches ≡ 16) × (length images ≡ 29) × (length romSizes ≡ 2) × (length registers ≡ 3) × (length grants ≡ 5) × (length places ≡ 13)
-how-many = (refl, refl, refl, refl, refl, refl, refl, refl, refl)
+pub how-many : (length sheet ≡ 13) × (length starts ≡ 28) × (length run ≡ 1) × (length searches ≡ 16) × (length writes ≡ 31) × (length reads ≡ 11) × (length images ≡ 29) × (length romSizes ≡ 2) × (length registers ≡ 3) × (length grants ≡ 5) × (length places ≡ 13)
+how-many = (refl, refl, refl, refl, refl, refl, refl, refl, refl, refl, refl)

@@ -1,4 +1,4 @@
-// The calls of document 01 on a lent table, the record search, and the image search of document 02, a: what C and Rust link. Each call on a table works on one bridge where it stands: the call on the
+// The calls of document 01 on a lent table, the record search, and of document 02 the image search (a) and the writer (g): what C and Rust link. Each call on a table works on one bridge where it stands: the call on the
 // bridge hands it back, and what it holds, all that a call changes, is stored where the number is 0; a refused call stores nothing in the table. Some bridge is read whatever the bridge number is
 // (one_bridge::index); the call on the bridge refuses a bridge that the table has not. The proofs of these walk the code by hand.
 use rules::Addressed;
@@ -9,9 +9,11 @@ use rules::Located;
 use rules::RecordAt;
 use rules::Reported;
 use rules::SessionNumber;
+use rules::Settings;
 use rules::Started;
 use rules::Table;
 use rules::Values;
+use rules::Written;
 ghost use mathlib.Core.Path.{_≡_};
 ghost use mathlib.Core.List.{[], _∷_};
 ghost use Rattle.rules.specs.Start.{startNumber, startTable, Sound};
@@ -32,6 +34,7 @@ ghost use Rattle.rules.specs.Calls.{
   step,
 };
 ghost use Rattle.rules.specs.Rom.{findImage};
+ghost use Rattle.rules.specs.Writer.{writeRecords, bufferAfter};
 ghost use Rattle.slipwattle.specs.Boundary.{recordAt};
 
 // The table of the rows, of any number, or a refusal and no bridges.
@@ -186,6 +189,14 @@ pub extern "C" fn slipwattle_find_image(
     ensures { λ r. ⌜ r ≡ findImage (now (rom .entry)) vendor device «code_type» ⌝ }
 {
     rom::search(rom, vendor, device, code_type)
+}
+
+// Setting records by value, those present laid down at the start of the buffer by rising type; the rest of it is left untouched.
+#[no_mangle]
+pub extern "C" fn slipwattle_write_records(settings: Settings, buffer: &mut [u8]) -> Written
+    ensures { λ r. ⌜ (r ≡ writeRecords settings (now (buffer .entry))) × (now (buffer .exit) ≡ bufferAfter settings (now (buffer .entry))) ⌝ }
+{
+    writer::write_records(settings, buffer)
 }
 
 #[no_mangle]

@@ -3,7 +3,7 @@ ghost use mathlib.Core.Path.{_≡_};
 ghost use mathlib.Core.List.{_++_};
 ghost use Prim.Native.Nat.{_+_, _≤_, _<_, _%_};
 ghost use lib.ListN.{length, take, drop};
-ghost use Rattle.rules.specs.Numbers.{word, dword, qword, le32, sum, sameBytes};
+ghost use Rattle.rules.specs.Numbers.{word, dword, qword, le16, le32, sum, sameBytes};
 ghost use Rattle.words.specs.Sums.{lanesSum};
 
 // A byte, widened.
@@ -36,6 +36,15 @@ pub fn read64(b: &[u8], at: usize) -> u64
     ensures { λ r. ⌜ r ≡ qword (now (b .entry)) at ⌝ }
 {
     (read32(b, at) as u64) + (read32(b, 4 + at) as u64) * 4294967296
+}
+
+// A WORD's bytes from `at` on; the rest stays.
+pub fn write16(b: &mut [u8], at: usize, x: u16)
+    requires { ⌜ 2 + at ≤ length (now b) ⌝ }
+    ensures { λ _. ⌜ now (b .exit) ≡ take at (now (b .entry)) ++ le16 x ++ drop (2 + at) (now (b .entry)) ⌝ }
+{
+    b[at] = (x % 256) as u8;
+    b[1 + at] = (x / 256 % 256) as u8;
 }
 
 // A DWORD's bytes from `at` on; the rest stays.

@@ -1,4 +1,4 @@
-//! Document 01, and the ROM of document 02, a, on single inputs, through the public calls.
+//! Document 01, and of document 02 the ROM, a, and the writer, g, on single inputs, through the public calls.
 
 mod bench_sheet;
 mod build;
@@ -9,3 +9,4 @@ mod record_rules;
 mod refusal_order;
 mod rom_rules;
 mod start_rules;
+mod writer_rules;

@@ -1,7 +1,10 @@
 //! Refusal numbers, and which comes first when two conditions hold.
 
 use crate::build::*;
-use reference::{BridgeNumber, BridgeRow, Refusal, SessionNumber, Table, find_image};
+use reference::{
+    BridgeNumber, BridgeRow, PciXSetting, Refusal, SessionNumber, Settings, Table, find_image,
+    write_records,
+};
 
 #[test]
 fn numbers() {
@@ -19,8 +22,10 @@ fn numbers() {
         Refusal::NoHotPlug,
         Refusal::Rom,
         Refusal::NoImage,
+        Refusal::RecordValue,
+        Refusal::ShortBuffer,
     ];
-    assert!(all.map(Refusal::number).into_iter().eq(1..=13));
+    assert!(all.map(Refusal::number).into_iter().eq(1..=15));
 }
 
 #[test]
@@ -128,4 +133,27 @@ fn rom_12_then_13() {
     assert_eq!(refused(&large), 13);
     large.push(0);
     assert_eq!(refused(&large), 12);
+}
+
+#[test]
+fn writer_14_then_15() {
+    let read_count = |maximum_memory_read_byte_count| Settings {
+        pci_x: Some(PciXSetting {
+            maximum_memory_read_byte_count,
+            ..PciXSetting::default()
+        }),
+        ..Settings::default()
+    };
+    let refused = |settings: &Settings, length| {
+        let mut buffer = vec![UNTOUCHED; length];
+        let number = write_records(settings, &mut buffer).map_err(Refusal::number);
+        assert!(buffer.iter().all(|&byte| byte == UNTOUCHED));
+        number.unwrap_err()
+    };
+    let (bad, right) = (read_count(4), read_count(3));
+    assert_eq!(refused(&bad, 0), 14);
+    assert_eq!(refused(&bad, 18), 14);
+    assert_eq!(refused(&bad, 19), 14);
+    assert_eq!(refused(&right, 18), 15);
+    assert_eq!(refused(&right, 0), 15);
 }

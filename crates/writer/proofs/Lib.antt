@@ -1,0 +1,3 @@
+pub mod Splicing
+pub mod Present
+pub mod Answers
