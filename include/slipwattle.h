@@ -303,9 +303,9 @@ typedef struct {
 
 /* At most one record of each type. Any flag but 0 says that the record is present; the values of one that is not count for nothing. */
 typedef struct {
+    slipwattle_express_setting express;
     slipwattle_pci_setting pci;
     slipwattle_pci_x_setting pci_x;
-    slipwattle_express_setting express;
     uint8_t has_pci;
     uint8_t has_pci_x;
     uint8_t has_express;

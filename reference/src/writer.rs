@@ -78,9 +78,9 @@ pub struct ExpressSetting {
     pub secondary_uncorrectable_error_mask: Masks,
 }
 
-/// Writes the records at the buffer's start, by rising type, and gives their length, or refusal 14 or 15.
+/// Writes the records, which it takes by value, at the buffer's start, by rising type, and gives their length, or refusal 14 or 15.
 #[inline(never)]
-pub fn write_records(settings: &Settings, buffer: &mut [u8]) -> Result<usize, Refusal> {
+pub fn write_records(settings: Settings, buffer: &mut [u8]) -> Result<usize, Refusal> {
     if !settings.within_limits() {
         return Err(Refusal::RecordValue);
     }

@@ -226,12 +226,12 @@ pub struct ExpressSetting {
 #[repr(C)]
 #[derive(Clone, Copy, Debug, PartialEq, Eq)]
 pub struct Settings {
+    /// The record of type 2.
+    pub express: ExpressSetting,
     /// The record of type 0.
     pub pci: PciSetting,
     /// The record of type 1.
     pub pci_x: PciXSetting,
-    /// The record of type 2.
-    pub express: ExpressSetting,
     /// Whether that of type 0 is present: any number but 0.
     pub has_pci: u8,
     /// Whether that of type 1 is.
@@ -314,8 +314,8 @@ const _: () = {
     assert!(offset_of!(ExpressSetting, secondary_uncorrectable_error_severity) == 48);
     assert!(offset_of!(ExpressSetting, secondary_uncorrectable_error_mask) == 56);
     assert!(size_of::<Settings>() == 96 && align_of::<Settings>() == 4);
-    assert!(offset_of!(Settings, pci) == 0 && offset_of!(Settings, pci_x) == 16);
-    assert!(offset_of!(Settings, express) == 28 && offset_of!(Settings, has_pci) == 92);
+    assert!(offset_of!(Settings, express) == 0 && offset_of!(Settings, pci) == 64);
+    assert!(offset_of!(Settings, pci_x) == 80 && offset_of!(Settings, has_pci) == 92);
     assert!(offset_of!(Settings, has_pci_x) == 93 && offset_of!(Settings, has_express) == 94);
     assert!(size_of::<Written>() == 16 && offset_of!(Written, number) == 0);
     assert!(offset_of!(Written, length) == 8);

@@ -7,7 +7,7 @@ use crate::random::Random;
 pub const MOST_BYTES: usize = 4096;
 
 /// The greatest value of each number after the revision, by record type.
-const LIMITS: [&[u32]; 3] = [&[255, 255, 1, 1], &[3, 7, 7], &REGISTER_LIMITS];
+pub const LIMITS: [&[u32]; 3] = [&[255, 255, 1, 1], &[3, 7, 7], &REGISTER_LIMITS];
 const ANY: u32 = u32::MAX;
 /// Bits 5 to 7 and 12 to 14 of Device Control.
 pub const PAYLOAD_SIZES: u32 = 0x70E0;
@@ -49,17 +49,18 @@ pub fn fields(block: &[u8]) -> Vec<Range<usize>> {
     fields
 }
 
+/// A number not above the limit, which is one less than a power of two.
+pub fn number_within(random: &mut Random, limit: u32) -> u32 {
+    if random.one_in(4) {
+        limit
+    } else {
+        random.word() & limit
+    }
+}
+
 fn numbers_within(random: &mut Random, record_type: usize) -> Vec<u32> {
-    let numbers = LIMITS[record_type].iter();
-    numbers
-        .map(|limit| {
-            if random.one_in(4) {
-                *limit
-            } else {
-                random.word() & limit
-            }
-        })
-        .collect()
+    let limits = LIMITS[record_type].iter();
+    limits.map(|limit| number_within(random, *limit)).collect()
 }
 
 /// A sound revision 1 record of type 0, 1 or 2.
@@ -71,8 +72,15 @@ pub fn record(random: &mut Random, record_type: u8) -> Vec<u8> {
 /// The AND and the OR mask of a register in the type 2 record of blocks that have one.
 pub fn masks(slot: &[u8], bridge_block: &[u8], register: usize) -> [u32; 2] {
     let record = reference::find_record(slot, bridge_block, 2).expect("the blocks have a record");
+    let numbers = numbers(record);
+    [numbers[2 * register], numbers[2 * register + 1]]
+}
+
+/// The numbers of a record after the revision.
+pub fn numbers(record: &[u8]) -> Vec<u32> {
     let (numbers, _) = record[3..].as_chunks();
-    [1, 2].map(|mask| u32::from_le_bytes(numbers[2 * register + mask]))
+    let numbers = numbers.iter().skip(1);
+    numbers.map(|number| u32::from_le_bytes(*number)).collect()
 }
 
 /// A field that a search passes over: a tag above 2, or another revision.

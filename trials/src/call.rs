@@ -3,6 +3,7 @@
 use crate::buffer::{Bytes, Words};
 use crate::part::Part;
 use crate::row::Rows;
+use crate::settings::Settings;
 
 /// Declares each call as a struct of its arguments, and the calls as one type.
 macro_rules! calls {
@@ -45,11 +46,12 @@ calls! {
     Locate { session: u8, address: u64 }
     FindRecord { slot: Bytes, bridge_block: Bytes, record_type: u32 }
     FindImage { rom: Bytes, vendor: u32, device: u32, code_type: u32 }
+    WriteRecords { settings: Settings, buffer: Bytes }
     RegisterValues { session: u8, bridge: u8, slot: Bytes, bridge_block: Bytes, current: Words }
 }
 
 /// The names of the calls, in the order of `Call::kind`.
-pub const KINDS: [&str; 9] = [
+pub const KINDS: [&str; 10] = [
     "start",
     "osc",
     "reset",
@@ -58,11 +60,12 @@ pub const KINDS: [&str; 9] = [
     "locate",
     "find_record",
     "find_image",
+    "write_records",
     "register_values",
 ];
 
 /// The numbers that documents 01 and 02 list for each call, in the order of `KINDS`.
-pub const LISTED: [&[usize]; 9] = [
+pub const LISTED: [&[usize]; 10] = [
     &[0, 6, 7],
     &[0, 1, 2, 3],
     &[0, 1, 2],
@@ -71,6 +74,7 @@ pub const LISTED: [&[usize]; 9] = [
     &[0, 4],
     &[0, 8, 9],
     &[0, 12, 13],
+    &[0, 14, 15],
     &[0, 1, 2, 11, 10, 8, 9],
 ];
 
@@ -85,7 +89,8 @@ impl Call {
             Call::Locate(_) => 5,
             Call::FindRecord(_) => 6,
             Call::FindImage(_) => 7,
-            Call::RegisterValues(_) => 8,
+            Call::WriteRecords(_) => 8,
+            Call::RegisterValues(_) => 9,
         }
     }
 
@@ -99,17 +104,25 @@ impl Call {
                 Part::Bytes(bytes) => bytes.set_guard(guard),
                 Part::Words(words) => words.set_guard(guard),
                 Part::Rows(rows) => rows.set_guard(guard),
-                Part::Byte(_) | Part::Word(_) | Part::Long(_) => {}
+                Part::Byte(_) | Part::Word(_) | Part::Long(_) | Part::Settings(_) => {}
             }
         }
     }
 
-    /// Whether `self`, as a call left it, is `before` with nothing changed but bytes of the answer buffer.
-    pub fn keeps_all_but_answer(&self, before: &Call) -> bool {
+    /// Whether `self`, as a call left it, is `before` with nothing changed but bytes of the buffer that the call may write in.
+    pub fn keeps_what_is_read(&self, before: &Call) -> bool {
         let mut restored = self.clone();
-        if let (Call::Osc(left), Call::Osc(before)) = (&mut restored, before) {
-            left.answer.lent_mut().copy_from_slice(before.answer.lent());
+        match (&mut restored, before) {
+            (Call::Osc(left), Call::Osc(before)) => restore(&mut left.answer, &before.answer),
+            (Call::WriteRecords(left), Call::WriteRecords(before)) => {
+                restore(&mut left.buffer, &before.buffer);
+            }
+            _ => {}
         }
         restored == *before
     }
+}
+
+fn restore(left: &mut Bytes, before: &Bytes) {
+    left.lent_mut().copy_from_slice(before.lent());
 }

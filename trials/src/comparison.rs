@@ -2,9 +2,10 @@
 
 use std::panic::{AssertUnwindSafe, catch_unwind};
 
-use crate::call::{Call, Report};
-use crate::given::Given;
+use crate::call::{Call, FindRecord, Report, WriteRecords};
+use crate::given::{Given, Handed};
 use crate::service::{Pair, Service};
+use crate::settings::Settings;
 
 /// The first difference that a list shows.
 #[derive(Clone, Debug)]
@@ -25,6 +26,13 @@ pub enum What {
     Lent(Box<[Call; 2]>),
     /// The program on one side changed a buffer that it may only read, or a guard.
     Touched { side: usize, left: Box<Call> },
+    /// A search for a record of this type in what was written.
+    Searched { record_type: u32, given: [Given; 2] },
+    /// What was written, read by the program on one side: other records than were asked for, or a refusal's number.
+    Read {
+        side: usize,
+        read: Result<Settings, u8>,
+    },
     /// What a bridge holds after the call, by report under its owner.
     Holding {
         bridge: u8,
@@ -84,7 +92,7 @@ pub fn compare_call(call: &Call, pair: &mut Pair) -> Result<(Call, Given), What>
         return Err(What::Given(given));
     }
     for (side, left) in calls.iter().enumerate() {
-        if !left.keeps_all_but_answer(call) {
+        if !left.keeps_what_is_read(call) {
             return Err(What::Touched {
                 side,
                 left: Box::new(left.clone()),
@@ -95,7 +103,41 @@ pub fn compare_call(call: &Call, pair: &mut Pair) -> Result<(Call, Given), What>
         return Err(What::Lent(Box::new(calls)));
     }
     let [left, _] = calls;
+    if let (Call::WriteRecords(write), Handed::Written { length }, 0) =
+        (&left, given[0].handed, given[0].number)
+    {
+        compare_written(write, length, pair)?;
+    }
     Ok((left, given[0]))
+}
+
+/// Searches the bytes that were written for types 0 to 3, and reads them.
+fn compare_written(write: &WriteRecords, length: usize, pair: &mut Pair) -> Result<(), What> {
+    let mut block = write.buffer.clone();
+    block.replace(write.buffer.lent().get(..length).unwrap_or_default());
+    let mut services = [&mut pair.left, &mut pair.right];
+    for record_type in 0..=3 {
+        let search = Call::from(FindRecord {
+            slot: Vec::new().into(),
+            bridge_block: block.clone(),
+            record_type,
+        });
+        let [left, right] = &mut services;
+        let given = [
+            made(&mut ***left, &mut search.clone()).ok_or(What::Panicked { side: 0 })?,
+            made(&mut ***right, &mut search.clone()).ok_or(What::Panicked { side: 1 })?,
+        ];
+        if given[0] != given[1] {
+            return Err(What::Searched { record_type, given });
+        }
+    }
+    for (side, service) in services.into_iter().enumerate() {
+        let read = service.read(&block);
+        if read != Ok(write.settings.as_read()) {
+            return Err(What::Read { side, read });
+        }
+    }
+    Ok(())
 }
 
 /// What the call gives, or nothing if the program panics. The service is not used after that.

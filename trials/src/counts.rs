@@ -3,18 +3,19 @@
 use std::fmt;
 
 use crate::blocks::{self, DEVICE_CONTROL, PAYLOAD_SIZES};
-use crate::call::{Call, FindImage, KINDS, LISTED, Osc, RegisterValues};
+use crate::call::{Call, FindImage, KINDS, LISTED, Osc, RegisterValues, WriteRecords};
 use crate::comparison::Agreed;
 use crate::given::Handed;
 use crate::roms;
+use crate::settings::TYPES;
 
-const NUMBERS: usize = 14;
+const NUMBERS: usize = 16;
 /// A run of this many calls must give every listed number of every call at least `LEAST` times.
 pub const FULL_RUN: u64 = 200_000;
 pub const LEAST: u64 = 1_000;
 
 /// What is counted beside the numbers.
-const ANSWERS: [&str; 16] = [
+const ANSWERS: [&str; 21] = [
     "_OSC status 0x00",
     "_OSC status 0x02",
     "_OSC status 0x04",
@@ -31,6 +32,11 @@ const ANSWERS: [&str; 16] = [
     "image behind another",
     "image, another match behind it",
     "ROM broken behind a match",
+    "records of all three types",
+    "records with bytes behind them",
+    "an absent value out of range",
+    "14 with too short a buffer",
+    "a buffer one byte too short",
 ];
 const AER: u32 = 1 << 3;
 
@@ -50,6 +56,8 @@ impl Counts {
         match (agreed.given.number, agreed.call) {
             (0, _) => self.note_answer(agreed),
             (12, Call::FindImage(call)) => self.answers[15] += u64::from(matches(call) > 0),
+            (14, Call::WriteRecords(call)) => self.answers[19] += u64::from(missing(call) > 0),
+            (15, Call::WriteRecords(call)) => self.answers[20] += u64::from(missing(call) == 1),
             _ => {}
         }
     }
@@ -69,6 +77,12 @@ impl Counts {
             (Call::FindImage(call), Handed::Image { start, .. }) => {
                 self.answers[if start == 0 { 12 } else { 13 }] += 1;
                 self.answers[14] += u64::from(matches(call) > 1);
+            }
+            (Call::WriteRecords(call), Handed::Written { length }) => {
+                let settings = &call.settings;
+                self.answers[16] += u64::from(settings.types().count() == TYPES);
+                self.answers[17] += u64::from(length < call.buffer.lent().len());
+                self.answers[18] += u64::from(!settings.is_within());
             }
             _ => {}
         }
@@ -120,6 +134,12 @@ fn matches(call: &FindImage) -> usize {
     let images = roms::images(call.rom.lent());
     let matching = images.iter().filter(|image| image.fields() == asked);
     matching.count()
+}
+
+/// How many bytes the buffer has too few.
+fn missing(call: &WriteRecords) -> usize {
+    let room = call.buffer.lent().len();
+    call.settings.bytes().saturating_sub(room)
 }
 
 impl fmt::Display for Counts {

@@ -37,6 +37,10 @@ pub enum Handed {
         start: usize,
         length: usize,
     },
+    /// So many bytes of records.
+    Written {
+        length: usize,
+    },
     Values([u32; 8]),
 }
 
@@ -67,6 +71,7 @@ impl Handed {
                 start: 0,
                 length: 0,
             },
+            Call::WriteRecords(_) => Handed::Written { length: 0 },
             Call::RegisterValues(_) => Handed::Values([0; 8]),
         }
     }

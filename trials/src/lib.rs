@@ -19,5 +19,6 @@ pub mod roms;
 pub mod row;
 pub mod rows;
 pub mod service;
+pub mod settings;
 pub mod shrink;
 pub mod sums;

@@ -9,6 +9,7 @@ use crate::requests;
 use crate::roms;
 use crate::row::Row;
 use crate::rows::{self, HIGHEST_OWNER, MOST_ROWS};
+use crate::settings;
 
 /// A sound start, around which the calls of a list are drawn, whether or not the list starts so.
 pub struct Plan {
@@ -81,14 +82,15 @@ impl Plan {
 
     fn next_call(&mut self, random: &mut Random) -> Call {
         let (session, bridge) = self.names(random);
-        match random.below(38) {
-            0..10 => requests::any_call(random, session, bridge).into(),
-            10..12 => Reset { session, bridge }.into(),
-            12..14 => Report { session, bridge }.into(),
-            14..18 => self.address(random, session, bridge),
-            18..21 => self.locate(random, session),
-            21..24 => find_record(random),
-            24..27 => roms::any_search(random).into(),
+        match random.below(45) {
+            0..12 => requests::any_call(random, session, bridge).into(),
+            12..14 => Reset { session, bridge }.into(),
+            14..16 => Report { session, bridge }.into(),
+            16..20 => self.address(random, session, bridge),
+            20..23 => self.locate(random, session),
+            23..26 => find_record(random),
+            26..29 => roms::any_search(random).into(),
+            29..32 => settings::any_write(random).into(),
             _ => register_values(random, session, bridge),
         }
     }

@@ -2,6 +2,7 @@
 
 use crate::buffer::{Buffer, Bytes, Item, Words};
 use crate::row::{NUMBERS, Row, Rows};
+use crate::settings::Settings;
 
 pub enum Part<'a> {
     Byte(&'a mut u8),
@@ -10,6 +11,7 @@ pub enum Part<'a> {
     Bytes(&'a mut Bytes),
     Words(&'a mut Words),
     Rows(&'a mut Rows),
+    Settings(&'a mut Settings),
 }
 
 /// An argument of each type is its kind of part.
@@ -23,7 +25,7 @@ macro_rules! part_of {
     };
 }
 
-part_of!(Byte: u8, Word: u32, Long: u64, Bytes: Bytes, Words: Words, Rows: Rows);
+part_of!(Byte: u8, Word: u32, Long: u64, Bytes: Bytes, Words: Words, Rows: Rows, Settings: Settings);
 
 impl Part<'_> {
     /// Whether it is lent, and so has a length.
@@ -40,6 +42,7 @@ impl Part<'_> {
             Part::Bytes(bytes) => bytes.lent().iter().copied().map(u64::from).collect(),
             Part::Words(words) => words.lent().iter().copied().map(u64::from).collect(),
             Part::Rows(rows) => rows.lent().iter().flat_map(Row::numbers).collect(),
+            Part::Settings(settings) => settings.numbers(),
         }
     }
 
@@ -52,6 +55,7 @@ impl Part<'_> {
             Part::Bytes(bytes) => replace(bytes, numbers, |number| *number as u8),
             Part::Words(words) => replace(words, numbers, |number| *number as u32),
             Part::Rows(rows) => replace(rows, numbers.as_chunks::<NUMBERS>().0, Row::from_numbers),
+            Part::Settings(settings) => **settings = Settings::from_numbers(numbers),
         }
     }
 }

@@ -6,6 +6,7 @@ use crate::call::Call;
 use crate::comparison::{Difference, What};
 use crate::part::Part;
 use crate::row::{NAMES, Row};
+use crate::settings::Settings;
 
 /// Everything that is needed to make the calls again by hand.
 pub fn report(list: &[Call], difference: &Difference) -> String {
@@ -39,6 +40,7 @@ impl Display for Shown<'_> {
                     write!(f, "({} numbers) {:x?}", words.lent().len(), words.lent())?
                 }
                 Part::Rows(rows) => show_rows(f, rows.lent())?,
+                Part::Settings(settings) => show_settings(f, settings)?,
             }
         }
         Ok(())
@@ -63,6 +65,15 @@ fn show_rows(f: &mut fmt::Formatter<'_>, rows: &[Row]) -> fmt::Result {
         for (name, number) in NAMES.iter().zip(row.numbers()) {
             write!(f, " {name} {number:#x}")?;
         }
+    }
+    Ok(())
+}
+
+fn show_settings(f: &mut fmt::Formatter<'_>, settings: &Settings) -> fmt::Result {
+    write!(f, "({} records)", settings.types().count())?;
+    for (record_type, flag) in settings.flags.into_iter().enumerate() {
+        let values = settings.of_type(record_type);
+        write!(f, "\n        type {record_type} flag {flag:#x} {values:x?}")?;
     }
     Ok(())
 }
@@ -97,6 +108,15 @@ impl Display for Explained<'_> {
                     "{name} changed a buffer that is only read, or a byte beside a lent one: {:x?}",
                     left
                 )
+            }
+            What::Searched { record_type, given } => write!(
+                f,
+                "a search for type {record_type} in what was written gives\n    {left}: {:?}\n    {right}: {:?}",
+                given[0], given[1]
+            ),
+            What::Read { side, read } => {
+                let name = self.0.names[*side];
+                write!(f, "{name} reads what was written as {read:x?}")
             }
             What::Holding {
                 bridge,

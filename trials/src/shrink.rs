@@ -4,10 +4,11 @@ use std::iter;
 use std::rc::Rc;
 
 use crate::blocks;
-use crate::call::{Call, Start};
+use crate::call::{Call, Start, WriteRecords};
 use crate::mcfg;
 use crate::part::Part;
 use crate::roms::{self, HEADER, Image, LAST, UNIT};
+use crate::settings::TYPES;
 
 /// Smaller is simpler: calls, then lent numbers, then numbers that are not 0, then the sum of them.
 type Size = (usize, usize, usize, u128);
@@ -100,16 +101,17 @@ fn without_row(list: &[Call], row: usize) -> Vec<Call> {
     changed
 }
 
-/// Calls like this one with one argument simpler, and starts with one entry less. Each is made when it is asked for: a long buffer has
-/// many.
+/// Calls like this one with one argument simpler, starts with one entry less, and writes of other records. Each is made when it is asked
+/// for: a long buffer has many.
 fn simpler_calls(call: &Call) -> impl Iterator<Item = Call> {
-    let tables = match call {
-        Call::Start(start) => Some(simpler_tables(start)),
-        _ => None,
+    let whole: Box<dyn Iterator<Item = Call>> = match call {
+        Call::Start(start) => Box::new(simpler_tables(start)),
+        Call::WriteRecords(write) => Box::new(fewer_records(write)),
+        _ => Box::new(iter::empty()),
     };
     let parts = 0..call.clone().parts().len();
     let parts = parts.flat_map(|index| simpler_part(call, index));
-    tables.into_iter().flatten().chain(parts)
+    whole.chain(parts)
 }
 
 /// Starts from an MCFG table with one entry less, with zeros in a run or with one byte smaller, mended.
@@ -136,6 +138,31 @@ fn simpler_tables(start: &Start) -> impl Iterator<Item = Call> {
         changed.mcfg.replace(&table);
         changed.into()
     })
+}
+
+/// The writer's call with one record less, or with one of another type in its place.
+fn fewer_records(write: &WriteRecords) -> impl Iterator<Item = Call> {
+    let settings = write.settings;
+    settings.types().flat_map(move |record_type| {
+        let absent = (0..TYPES).filter(move |other| !settings.is_present(*other));
+        let instead = iter::once(None).chain(absent.map(Some));
+        instead.map(move |other| without_record(write, record_type, other))
+    })
+}
+
+/// The buffer is shorter by as many bytes as the records.
+fn without_record(write: &WriteRecords, record_type: usize, instead: Option<usize>) -> Call {
+    let mut changed = write.clone();
+    let settings = &mut changed.settings;
+    settings.flags[record_type] = 0;
+    if let Some(other) = instead {
+        settings.flags[other] = 1;
+    }
+    let less = write.settings.bytes().saturating_sub(settings.bytes());
+    let buffer = write.buffer.lent();
+    let room = buffer.len().saturating_sub(less);
+    changed.buffer.replace(&buffer[..room]);
+    changed.into()
 }
 
 /// Smaller numbers to try instead of this one: 0, then it less a half, a quarter and so on down to it less 1, then it without one of its

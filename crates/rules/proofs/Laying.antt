@@ -10,11 +10,11 @@ use borrow.Author.Tests.{ltb-true, eq-eqb, ne-eqb, le-leb}
 use lib.Dec.{eqb, ltb}
 use lib.ListN.{length, getD, drop, length-append}
 use lib.Seq.{drop-at}
-use Rattle.rules.specs.Lists.{every, first, isNone}
+use Rattle.rules.specs.Lists.{first, isNone}
 use Rattle.rules.specs.Refusals.{_if_, firstOf}
 use Rattle.rules.specs.Numbers.{byte, word, dwords}
 use Rattle.rules.specs.Records.{fieldsFrom, value, recordSize, foundBy}
-use Rattle.rules.specs.Writer.{Setting, pciNumbers, pciXNumbers, expressNumbers, ifPresent, presentIn, recordBytes, laidDown, numbersFrom, placeAmong, areDwords}
+use Rattle.rules.specs.Writer.{Setting, pciNumbers, pciXNumbers, expressNumbers, ifPresent, presentIn, recordBytes, laidDown, numbersFrom, placeAmong, areDwords, dwordsIn}
 use Rattle.rules.specs.declared.Field.{Field}
 use Rattle.rules.specs.declared.FoundAt.{FoundAt}
 use Rattle.rules.specs.declared.Settings.{Settings}
@@ -32,10 +32,6 @@ pub record Shaped (r : Setting) : Type 0 where
 -- such records by rising type, from type t on
 abbrev pub Records : ℕ → List Setting → Type 0
 Records t rs = Rising (λ (r : Setting). r .type) Shaped t rs
-
--- all their numbers fit in a u32
-abbrev pub dwordsIn : List Setting → Bool
-dwordsIn rs = every (λ (r : Setting). areDwords (r .numbers)) rs
 
 -- ---- lengths
 

@@ -14,7 +14,7 @@ use Rattle.rules.specs.Limits.{maxBlock}
 use Rattle.rules.specs.Lists.{every, pairwise}
 use Rattle.rules.specs.Refusals.{firstOf}
 use Rattle.rules.specs.Records.{fieldsOf, isRecord, fieldSound, notTwice, soundFields, blockSound, findRecord}
-use Rattle.rules.specs.Writer.{Setting, presentIn, laidDown, settingSound, writeRefusals, writtenBy, writeRecords, bufferAfter, readSettings, placeAmong, risingRecords, onlyRising}
+use Rattle.rules.specs.Writer.{Setting, presentIn, laidDown, settingSound, writeRefusals, writtenBy, writeRecords, bufferAfter, readSettings, placeAmong, risingRecords, onlyRising, dwordsIn}
 use Rattle.rules.specs.Claims.{writtenPart, WrittenSound, WrittenReadBack, ReadWrittenAgain}
 use Rattle.rules.specs.declared.Field.{Field}
 use Rattle.rules.specs.declared.Settings.{Settings}
@@ -22,7 +22,7 @@ use Rattle.rules.proofs.Tests.{and-true, and-is, and-off}
 use Rattle.rules.proofs.Refusals.{clear}
 use Rattle.rules.proofs.Rising.{every-of, pairwise-of}
 use Rattle.rules.proofs.Whole.{settingAt, Whole, Fields, is-record, all-same, all-whole}
-use Rattle.rules.proofs.Laying.{Records, dwordsIn, laid-most, placedFrom, fields-read, settings-read, fields-whole, answerBy, place-found, present-rising}
+use Rattle.rules.proofs.Laying.{Records, laid-most, placedFrom, fields-read, settings-read, fields-whole, answerBy, place-found, present-rising}
 use Rattle.rules.proofs.Again.{found-by-type, settings-same, block-again}
 
 -- ---- records laid down, as a block

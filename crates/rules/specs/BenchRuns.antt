@@ -227,11 +227,12 @@ searches =
     ∷ (findRecord skipped types01 0 gives found 9 0 0)
     ∷ (findRecord skipped [] 3 gives found 9 0 0)
     ∷ (findRecord [] types01 256 gives found 9 0 0)
-    -- two bytes left over; two records of type 0; length 3; SERR 2; Device Control mask 65536; a length past the end
+    -- two bytes left over; two records of type 0; length 3; SERR 2; cache line 0x80000008; Device Control mask 65536; a length past the end
     ∷ (findRecord [] (types01 ++ 0 ∷ 0 ∷ []) 0 gives found 8 0 0)
     ∷ (findRecord [] (types01 ++ types01) 7 gives found 8 0 0)
     ∷ (findRecord [] (0x00 ∷ 3 ∷ 0 ∷ 1 ∷ 0 ∷ 0 ∷ []) 0 gives found 8 0 0)
     ∷ (findRecord [] (set types01 15 2) 1 gives found 8 0 0)
+    ∷ (findRecord [] (set types01 10 0x80) 0 gives found 8 0 0)
     ∷ (findRecord [] (set type2 41 1) 2 gives found 8 0 0)
     ∷ (findRecord [] (0x05 ∷ 0xFF ∷ 0xFF ∷ []) 0 gives found 8 0 0)
     -- revision 2 is skipped; document 02, e: 4096 bytes, and 4097
@@ -331,6 +332,18 @@ masksAlone flag a b c d =
       «has_express» = flag;
     }
 
+-- settings with one value of each type other: cache line, read count, Link Control's OR mask; by the three flags
+abbrev pub oneOther : (pci pciX express cache read linkOr : ℕ) → Settings
+oneOther a b c cache read linkOr =
+    record {
+      pci = pciAlone cache 255 1 1 .pci;
+      «pci_x» = pciXAlone read 7 7 .«pci_x»;
+      express = masksAlone 1 65535 65535 65535 linkOr .express;
+      «has_pci» = a;
+      «has_pci_x» = b;
+      «has_express» = c;
+    }
+
 -- what the writer hands back, and the buffer after it
 pub record Wrote : Type 0 where
   pub number : ℕ
@@ -386,6 +399,20 @@ writes =
     ∷ (numberOf (masksAlone 1 65535 65536 65535 65535) gives 14)
     ∷ (numberOf (masksAlone 1 65535 65535 65536 65535) gives 14)
     ∷ (numberOf (masksAlone 1 65535 65535 65535 65536) gives 14)
+    -- all three present, one value of one type out of its range, no room, and room for the first record: 14 first
+    ∷ (write (oneOther 1 1 1 255 3 65536) [] gives record { number = 14; length = 0; buffer = [] })
+    ∷ (write (oneOther 1 1 1 255 4 65535) (lentBytes 23) gives record { number = 14; length = 0; buffer = lentBytes 23 })
+    ∷ (write (oneOther 1 1 1 256 3 65535) [] gives record { number = 14; length = 0; buffer = [] })
+    -- values of absent records beside a present one
+    ∷ (numberOf (oneOther 1 0 0 255 4 65536) gives 0)
+    ∷ (numberOf (oneOther 0 1 0 256 3 65536) gives 0)
+    ∷ (numberOf (oneOther 0 0 1 256 4 65535) gives 0)
+    -- numbers above two bytes; 0, and an average above the total
+    ∷ (numberOf (pciAlone 0x80000000 255 1 1) gives 14)
+    ∷ (numberOf (pciAlone 0 0 0 0) gives 0)
+    ∷ (numberOf (pciXAlone 0 7 0) gives 0)
+    -- flags of other bits
+    ∷ (write (settings 2 4 128) (lentBytes 113) gives record { number = 0; length = 113; buffer = types01 ++ expressRecord })
     ∷ []
 
 -- blocks read, and which of them hold only revision 1 records of types 0 to 2 in rising order

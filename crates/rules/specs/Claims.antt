@@ -18,7 +18,7 @@ use Rattle.rules.specs.Start.{StartInput, startRefusals, startNumber, st
 use Rattle.rules.specs.Osc.{grantedBit, granted, uuidBytes, status, query, control}
 use Rattle.rules.specs.Records.{blockSound, deciding, recordRefusals, findRecord}
 use Rattle.rules.specs.Rom.{imageSignature, structureAt, imagesOf, romSound, imageRefusals, findImage, Chain}
-use Rattle.rules.specs.Writer.{Setting, presentIn, writeRefusals, writeRecords, bufferAfter, readSettings, placeAmong, onlyRising, areDwords, areBytes}
+use Rattle.rules.specs.Writer.{presentIn, writeRefusals, writeRecords, bufferAfter, readSettings, placeAmong, onlyRising, dwordsIn, areBytes}
 use Rattle.rules.specs.Calls.{osc, reset, address, Call, on, locate, Result, addressed, located, Outcome, outcome, step, listed, zerosOf, lentTo, tableAfter, sessionOf, callsOf, outcomesOf, widthOf}
 use Rattle.rules.specs.History.{reaches, historyStep, historyFrom}
 use Rattle.rules.specs.declared.Bridge.{Bridge}
@@ -95,7 +95,7 @@ writtenPart s buffer = take (writeRecords s buffer .length) (bufferAfter s buffe
 
 -- every number of a present record is one that a u32 holds, as those of the code are
 abbrev pub SettingsFit : Settings → Type 0
-SettingsFit s = every (λ (r : Setting). areDwords (r .numbers)) (presentIn s) ≡ true
+SettingsFit s = dwordsIn (presentIn s) ≡ true
 
 -- what is written lies in the buffer, leaves the rest untouched, and is a sound block of revision 1 records of types 0 to 2 in rising order
 abbrev pub WrittenSound : Type 0

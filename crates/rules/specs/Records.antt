@@ -75,7 +75,7 @@ infix 40 _atMost_
 abbrev pub _atMost_ : (number most : ℕ) → Range
 k atMost m = record { number = k; most = m }
 
--- the ranges of types 0, 1 and 2 (document 002, tables 6-7 to 6-9), once for the search and for the writer of document 02, g
+-- the ranges of types 0, 1 and 2, once for the search and for the writer of document 02, g; the fields are those of document 002, tables 6-7 to 6-9
 abbrev pub ranges : ℕ → List Range
 -- "cache line and latency at most 255, SERR and PERR 0 or 1"
 ranges zero = (1 atMost 255) ∷ (2 atMost 255) ∷ (3 atMost 1) ∷ (4 atMost 1) ∷ []

@@ -9,7 +9,7 @@ use Rattle.rules.specs.Lists.{every, pairwise}
 use Rattle.rules.specs.Numbers.{le16, dwords}
 use Rattle.rules.specs.Parts.{refused}
 use Rattle.rules.specs.Refusals.{Refusal, _if_, firstOf}
-use Rattle.rules.specs.Records.{fieldsOf, value, isRecord, inRanges, recordIn}
+use Rattle.rules.specs.Records.{fieldsOf, value, isRecord, andNumber, orNumber, inRanges, recordIn}
 use Rattle.rules.specs.declared.Field.{Field}
 use Rattle.rules.specs.declared.FoundAt.{FoundAt}
 use Rattle.rules.specs.declared.Masks.{Masks}
@@ -26,7 +26,7 @@ pub record Setting : Type 0 where
   pub type : ℕ
   pub numbers : List ℕ
 
--- "values .. in that field order" (document 01; document 002, tables 6-7 to 6-9), behind revision 1
+-- the numbers of each type "in that field order" (document 01; document 002, tables 6-7 to 6-9), behind revision 1
 abbrev pub pciNumbers : PciSetting → List ℕ
 pciNumbers p = 1 ∷ p .«cache_line_size» ∷ p .«latency_timer» ∷ p .«enable_serr» ∷ p .«enable_perr» ∷ []
 
@@ -45,7 +45,7 @@ expressNumbers e =
     ∷ e .«advanced_error_capabilities_and_control» ∷ e .«device_control» ∷ e .«link_control»
     ∷ e .«secondary_uncorrectable_error_severity» ∷ e .«secondary_uncorrectable_error_mask» ∷ [])
 
--- a record that may be absent, for which its flag is 0
+-- a record that is absent where its flag is 0
 abbrev pub ifPresent : (flag type : ℕ) → List ℕ → List Setting
 ifPresent flag type v = cond (eqb flag 0) [] (record { type = type; numbers = v } ∷ [])
 
@@ -124,7 +124,7 @@ pciXOf v = record {
 }
 
 abbrev pub masksOf : List ℕ → ℕ → Masks
-masksOf v k = record { and = getD v (1 + 2 * k) 0; or = getD v (2 + 2 * k) 0 }
+masksOf v k = record { and = getD v (andNumber k) 0; or = getD v (orNumber k) 0 }
 
 abbrev pub expressOf : List ℕ → ExpressSetting
 expressOf v = record {
@@ -170,9 +170,12 @@ risingRecords l (some r) = every (isRecord l) r && pairwise (λ f g. ltb (f .tag
 unfoldable pub onlyRising : List ℕ → Bool
 onlyRising l = risingRecords l (fieldsOf l)
 
--- numbers that a u32 holds, and those that a byte does
+-- numbers that a u32 holds, those of records, and bytes
 abbrev pub areDwords : List ℕ → Bool
 areDwords v = every (λ x. ltb x 4294967296) v
+
+abbrev pub dwordsIn : List Setting → Bool
+dwordsIn l = every (λ r. areDwords (r .numbers)) l
 
 abbrev pub areBytes : List ℕ → Bool
 areBytes l = every (λ x. ltb x 256) l

@@ -123,9 +123,9 @@ pub struct ExpressSetting {
 // At most one record of each known type: any number but 0 says that it is present; the values of one that is not count for nothing.
 #[repr(C)]
 pub struct Settings {
+    pub express: ExpressSetting,
     pub pci: PciSetting,
     pub pci_x: PciXSetting,
-    pub express: ExpressSetting,
     pub has_pci: u8,
     pub has_pci_x: u8,
     pub has_express: u8,

@@ -287,5 +287,5 @@ granted-bits = all-claims .granted-bits
 pub lines : AllHold sheet × (AllHold starts × AllHold run × AllHold searches × AllHold writes × AllHold reads × AllHold images × AllHold romSizes × AllHold registers × AllHold grants × AllHold places)
 lines = (all-claims .bench-sheet, all-claims .example-runs)
 
-pub how-many : (length sheet ≡ 13) × (length starts ≡ 28) × (length run ≡ 1) × (length searches ≡ 16) × (length writes ≡ 31) × (length reads ≡ 11) × (length images ≡ 29) × (length romSizes ≡ 2) × (length registers ≡ 3) × (length grants ≡ 5) × (length places ≡ 13)
+pub how-many : (length sheet ≡ 13) × (length starts ≡ 28) × (length run ≡ 1) × (length searches ≡ 17) × (length writes ≡ 41) × (length reads ≡ 11) × (length images ≡ 29) × (length romSizes ≡ 2) × (length registers ≡ 3) × (length grants ≡ 5) × (length places ≡ 13)
 how-many = (refl, refl, refl, refl, refl, refl, refl, refl, refl, refl, refl)

@@ -48,7 +48,9 @@ fn refusal(number: u8) {
         10 => text(b"the register list"),
         11 => text(b"the bridge does not hold control bit 0"),
         12 => text(b"the ROM breaks a rule"),
-        _ => text(b"the ROM has no such image"),
+        13 => text(b"the ROM has no such image"),
+        14 => text(b"a value breaks a range"),
+        _ => text(b"the buffer is too short"),
     }
 }
 
@@ -233,6 +235,23 @@ fn record<'a>(words: &[u8], slot: &'a [u8], block: &'a [u8], record_type: u32) {
     end();
 }
 
+// The records of the example block with this latency, written into as many bytes.
+fn write(words: &[u8], latency: u32) -> [u8; 42] {
+    text(words);
+    decimal(b" Types 0 and 1, latency ", latency as u64);
+    text(b", buffer 42 bytes");
+    let mut settings = fixtures::example_settings();
+    settings.pci.latency_timer = latency;
+    let mut block = [0; 42];
+    let written = writer::write_records(settings, &mut block);
+    came(written.number);
+    if written.number == 0 {
+        decimal(b"; length ", written.length as u64);
+    }
+    end();
+    block
+}
+
 // An image of vendor 0x10ec and device 0x8139, in the first bytes of the two images.
 fn image(words: &[u8], bytes: usize, code_type: u32)
     requires { ⌜ bytes ≤ 1536 ⌝ }
@@ -386,6 +405,14 @@ fn records() {
     record(b"The slot has no block.", &none, &block, 2);
 }
 
+// A teacher's settings, and what was written of them as the slot's block.
+fn teacher_writes() {
+    write(b"A teacher mistypes the latency of a record.", 640);
+    let block = write(b"The teacher writes the block again.", 64);
+    let none = [0u8; 0];
+    record(b"A record in the teacher's block.", &block, &none, 1);
+}
+
 // A ROM with a PC-AT image, code type 0, and a UEFI image, code type 3, of 1024 bytes in all.
 fn images() {
     image(b"The UEFI image of a replacement card.", 1024, 3);
@@ -425,6 +452,7 @@ fn main() {
     let t = class_is_refused(both_negotiate(begin()));
     addresses(t);
     records();
+    teacher_writes();
     images();
     class_lets_go(t);
 }

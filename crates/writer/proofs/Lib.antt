@@ -1,3 +1,4 @@
 pub mod Splicing
 pub mod Present
+pub mod Measuring
 pub mod Answers

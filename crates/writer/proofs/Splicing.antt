@@ -3,6 +3,7 @@
 use Prim.Native.Nat.{ℕ, suc, _+_, _*_, _≤_, _<_}
 use mathlib.Core.Path.{_≡_, refl, sym, ap, ap₂, _∙_}
 use mathlib.Core.List.{List, [], _∷_, _++_, append-assoc, append-nil}
+use native.Mathlib.Nat.{add-comm}
 use native.Mathlib.Omega.{arith}
 use lib.ListN.{length, getD, take, drop, set, length-append, take-append-drop}
 use lib.Seq.{length-take-le, take-suc, take-length, take-at, drop-at, drop-drop, set-split}
@@ -50,12 +51,9 @@ splice-next at x y b h n e =
     front : take n (splice at x b) ≡ take at b ++ x
     front = take-at (take at b ++ x) (drop (length x + at) b) n long
 
-    turn : (m n : ℕ) → m + n ≡ n + m
-    turn m n = omega arith
-
     back : drop (length y + n) (splice at x b) ≡ drop (n + length y) b
     back =
-        ap (λ (k : ℕ). drop k (splice at x b)) (turn (length y) n)
+        ap (λ (k : ℕ). drop k (splice at x b)) (add-comm (length y) n)
         ∙ sym (drop-drop (length y) n (splice at x b))
         ∙ ap (drop (length y)) (drop-at (take at b ++ x) (drop (length x + at) b) n long ∙ ap (λ (k : ℕ). drop k b) (sym e))
         ∙ drop-drop (length y) n b

@@ -5,12 +5,9 @@ use rules::PciXSetting;
 use rules::Settings;
 use rules::Written;
 ghost use mathlib.Core.Path.{_≡_};
-ghost use mathlib.Core.Bool.{cond};
 ghost use mathlib.Core.List.{_++_};
 ghost use Prim.Native.Nat.{_+_, _*_, _<_, _≤_};
-ghost use lib.Dec.{eqb};
 ghost use lib.ListN.{length, getD, drop};
-ghost use Rattle.rules.specs.Lists.{every};
 ghost use Rattle.rules.specs.Numbers.{dwords};
 ghost use Rattle.rules.specs.Writer.{
   pciNumbers,
@@ -20,11 +17,11 @@ ghost use Rattle.rules.specs.Writer.{
   presentIn,
   recordBytes,
   laidDown,
-  settingSound,
   writeRecords,
   bufferAfter,
 };
 ghost use Rattle.writer.specs.Splices.{splice};
+ghost use Rattle.writer.specs.Measures.{measured};
 
 // The revision of every written record.
 const REVISION: u32 = 1;
@@ -77,30 +74,63 @@ fn express_numbers(e: ExpressSetting) -> [u32; 17]
     ]
 }
 
-// Whether the values of every present record are in their ranges; those of an absent one count for nothing.
-fn in_ranges(s: Settings) -> bool
-    ensures { λ r. ⌜ r ≡ every settingSound (presentIn s) ⌝ }
-{
-    ((s.has_pci == 0) | ranges::pci(s.pci))
-        & ((s.has_pci_x == 0) | ranges::pci_x(s.pci_x))
-        & ((s.has_express == 0) | ranges::express(s.express))
+// What records come to: their bytes, headers included, or a value out of its range.
+pub enum Measured {
+    Bytes(usize),
+    OutOfRange,
 }
 
-// The bytes of a record, header included, where it is present.
-fn size_if(flag: u8, size: usize) -> usize
-    ensures { λ r. ⌜ (r ≡ cond (eqb flag 0) 0 size) × (r ≤ size) ⌝ }
+// A record that may be absent: the values of one that is count for nothing.
+fn measure_pci(flag: u8, p: PciSetting) -> Measured
+    ensures { λ r. ⌜ r ≡ measured (ifPresent flag 0 (pciNumbers p)) ⌝ }
 {
     if flag == 0 {
-        return 0;
+        return Measured::Bytes(0);
     }
-    size
+    if ranges::pci(p) {
+        return Measured::Bytes(23);
+    }
+    Measured::OutOfRange
 }
 
-// The bytes of the present records.
-fn laid_length(s: Settings) -> usize
-    ensures { λ r. ⌜ r ≡ length (laidDown (presentIn s)) ⌝ }
+fn measure_pci_x(flag: u8, p: PciXSetting) -> Measured
+    ensures { λ r. ⌜ r ≡ measured (ifPresent flag 1 (pciXNumbers p)) ⌝ }
 {
-    size_if(s.has_pci, 23) + size_if(s.has_pci_x, 19) + size_if(s.has_express, 71)
+    if flag == 0 {
+        return Measured::Bytes(0);
+    }
+    if ranges::pci_x(p) {
+        return Measured::Bytes(19);
+    }
+    Measured::OutOfRange
+}
+
+fn measure_express(flag: u8, p: ExpressSetting) -> Measured
+    ensures { λ r. ⌜ r ≡ measured (ifPresent flag 2 (expressNumbers p)) ⌝ }
+{
+    if flag == 0 {
+        return Measured::Bytes(0);
+    }
+    if ranges::express(p) {
+        return Measured::Bytes(71);
+    }
+    Measured::OutOfRange
+}
+
+// The present records.
+fn measure(s: Settings) -> Measured
+    ensures { λ r. ⌜ r ≡ measured (presentIn s) ⌝ }
+{
+    let Measured::Bytes(first) = measure_pci(s.has_pci, s.pci) else {
+        return Measured::OutOfRange;
+    };
+    let Measured::Bytes(second) = measure_pci_x(s.has_pci_x, s.pci_x) else {
+        return Measured::OutOfRange;
+    };
+    let Measured::Bytes(third) = measure_express(s.has_express, s.express) else {
+        return Measured::OutOfRange;
+    };
+    Measured::Bytes(first + second + third)
 }
 
 // Numbers, little-endian, from `at` on.
@@ -152,13 +182,12 @@ fn lay_down(s: Settings, buffer: &mut [u8])
 pub fn write_records(s: Settings, buffer: &mut [u8]) -> Written
     ensures { λ r. ⌜ (r ≡ writeRecords s (now (buffer .entry))) × (now (buffer .exit) ≡ bufferAfter s (now (buffer .entry))) ⌝ }
 {
-    if !in_ranges(s) {
+    let Measured::Bytes(length) = measure(s) else {
         return Written {
             number: 14,
             length: 0,
         };
-    }
-    let length = laid_length(s);
+    };
     if buffer.len() < length {
         return Written {
             number: 15,

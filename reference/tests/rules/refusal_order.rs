@@ -146,7 +146,7 @@ fn writer_14_then_15() {
     };
     let refused = |settings: &Settings, length| {
         let mut buffer = vec![UNTOUCHED; length];
-        let number = write_records(settings, &mut buffer).map_err(Refusal::number);
+        let number = write_records(*settings, &mut buffer).map_err(Refusal::number);
         assert!(buffer.iter().all(|&byte| byte == UNTOUCHED));
         number.unwrap_err()
     };

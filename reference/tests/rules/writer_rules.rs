@@ -94,7 +94,7 @@ fn write(settings: &Settings, length: usize) -> Result<Vec<u8>, Refusal> {
     // What the buffer held before does not show in what was written.
     let [first, second] = [UNTOUCHED, !UNTOUCHED].map(|before| {
         let mut buffer = vec![before; length];
-        let written = write_records(settings, &mut buffer);
+        let written = write_records(*settings, &mut buffer);
         let rest = buffer.split_off(written.unwrap_or(0));
         assert!(rest.iter().all(|&byte| byte == before));
         written.map(|_| buffer)
@@ -211,11 +211,11 @@ fn rest_of_the_buffer_is_untouched() {
 #[test]
 fn buffer_may_be_a_part() {
     let mut whole = [UNTOUCHED; 200];
-    assert_eq!(write_records(&ALL, &mut whole[41..154]), Ok(113));
+    assert_eq!(write_records(ALL, &mut whole[41..154]), Ok(113));
     assert_eq!(whole[..41], [UNTOUCHED; 41]);
     assert_eq!(whole[41..154], ALL_BYTES);
     assert_eq!(whole[154..], [UNTOUCHED; 46]);
-    let refused = write_records(&ALL, &mut whole[..112]);
+    let refused = write_records(ALL, &mut whole[..112]);
     assert_eq!(refused, Err(Refusal::ShortBuffer));
     assert_eq!(whole[..41], [UNTOUCHED; 41]);
     assert_eq!(whole[41..154], ALL_BYTES);
@@ -244,7 +244,7 @@ fn every_choice_of_types() {
 fn nothing_present() {
     let nothing = Settings::default();
     assert_eq!(nothing, choose(&ALL, 0));
-    assert_eq!(write_records(&nothing, &mut []), Ok(0));
+    assert_eq!(write_records(nothing, &mut []), Ok(0));
     for length in [0, 1, 3, 113, 4097] {
         assert_eq!(write(&nothing, length), Ok(vec![]));
     }

@@ -7,6 +7,7 @@ pub mod registers;
 pub mod roms;
 mod starts;
 pub mod sums;
+pub mod writer;
 
 use crate::call::Call;
 use crate::comparison;
@@ -14,11 +15,12 @@ use crate::given::Given;
 use crate::print;
 use crate::random_trials::shortest;
 use crate::service::Pair;
+use crate::settings::Settings;
 
 /// The name of each comparison, and the comparison: the count of its calls, or a difference in words.
 type Comparison = (&'static str, fn(fn() -> Pair) -> Result<u64, String>);
 
-const COMPARISONS: [Comparison; 22] = [
+const COMPARISONS: [Comparison; 28] = [
     (
         "every offset with every width, and numbers beyond",
         places::offsets_and_widths,
@@ -98,6 +100,30 @@ const COMPARISONS: [Comparison; 22] = [
         "every vendor, device and code type of a byte, and those of 3 images with every bit flipped",
         roms::asked,
     ),
+    (
+        "every choice of records in every buffer to 120 bytes, with values at and past every limit",
+        writer::choices,
+    ),
+    (
+        "every flag of every type, beside absent records and beside present ones",
+        writer::flags,
+    ),
+    (
+        "every value that has a limit from 0 to 2 past it, and every value with every bit flipped",
+        writer::values,
+    ),
+    (
+        "every choice of records in rising order, read and written again",
+        writer::again,
+    ),
+    (
+        "records in every order and among fields that are skipped, read and written again",
+        writer::orders,
+    ),
+    (
+        "every byte of a block of three records changed to every value, read and written again",
+        writer::changed_bytes,
+    ),
 ];
 
 /// Makes all comparisons of calls and tells the count of each.
@@ -137,15 +163,34 @@ impl Bench {
         if !self.pair.takes(&call) {
             return Ok(None);
         }
-        self.count += 1;
-        let Ok((_, given)) = comparison::compare_call(&call, &mut self.pair) else {
-            self.first.push(call);
-            return Err(difference(&self.first, self.make));
-        };
+        let (_, given) = self.made(&call)?;
         if matches!(call, Call::Start(_)) {
             self.first = vec![call];
         }
         Ok(Some(given))
+    }
+
+    /// The records of a block as both read them, or a refusal's number.
+    fn read(&mut self, block: &[u8]) -> Result<Result<Settings, u8>, String> {
+        self.count += 1;
+        let lent = block.to_vec().into();
+        let read = [&mut self.pair.left, &mut self.pair.right].map(|side| side.read(&lent));
+        if read[0] == read[1] {
+            return Ok(read[0]);
+        }
+        Err(format!(
+            "{block:x?}\nis read as\n{:x?}\nand as\n{:x?}",
+            read[0], read[1]
+        ))
+    }
+
+    /// The call as both left it, and what it gives.
+    fn made(&mut self, call: &Call) -> Result<(Call, Given), String> {
+        self.count += 1;
+        comparison::compare_call(call, &mut self.pair).map_err(|_| {
+            self.first.push(call.clone());
+            difference(&self.first, self.make)
+        })
     }
 }
 

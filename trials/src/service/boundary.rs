@@ -1,17 +1,20 @@
 //! The proved library as C calls it.
 
-use std::mem::{align_of, offset_of, size_of};
+use std::mem::{align_of, offset_of, size_of, transmute};
 use std::ptr::{null, null_mut};
 
 use slipwattle::sys::{self, BridgeNumber, SessionNumber};
 
 use super::Service;
-use crate::buffer::{Buffer, Item};
+use crate::blocks;
+use crate::buffer::{Buffer, Bytes, Item};
 use crate::call::{
     Address, Call, FindImage, FindRecord, Locate, Osc, RegisterValues, Report, Reset, Start,
+    WriteRecords,
 };
 use crate::given::{Given, Handed};
 use crate::row::Row;
+use crate::settings::{Settings, TYPES};
 
 /// The table is an allocation of its own, so that a reading beside it can be seen.
 pub struct Boundary {
@@ -114,9 +117,26 @@ impl Service for Boundary {
             Call::Locate(call) => self.locate(call),
             Call::FindRecord(call) => find_record(call),
             Call::FindImage(call) => find_image(call),
+            Call::WriteRecords(call) => write_records(call),
             Call::RegisterValues(call) => self.register_values(call),
         };
         Given { number, handed }
+    }
+
+    /// By a search for each type.
+    fn read(&mut self, block: &Bytes) -> Result<Settings, u8> {
+        let mut settings = Settings::default();
+        for record_type in 0..TYPES {
+            match find_record(&search(block, record_type)) {
+                (0, Handed::Record { start, length, .. }) => {
+                    let numbers = blocks::numbers(&block.lent()[start..][..length]);
+                    settings.put(record_type, &numbers);
+                }
+                (9, _) => {}
+                (number, _) => return Err(number),
+            }
+        }
+        Ok(settings)
     }
 }
 
@@ -247,4 +267,35 @@ fn find_image(call: &FindImage) -> (u8, Handed) {
         length: found.size,
     };
     (found.number, handed)
+}
+
+fn search(block: &Bytes, record_type: usize) -> FindRecord {
+    FindRecord {
+        slot: Vec::new().into(),
+        bridge_block: block.clone(),
+        record_type: record_type as u32,
+    }
+}
+
+// Settings are laid out as those of sys.
+const _: () = {
+    assert!(size_of::<Settings>() == size_of::<sys::Settings>());
+    assert!(align_of::<Settings>() == align_of::<sys::Settings>());
+    assert!(offset_of!(Settings, values) == offset_of!(sys::Settings, express));
+    assert!(offset_of!(Settings, flags) == offset_of!(sys::Settings, has_pci));
+};
+
+/// The settings as sys has them.
+pub fn as_lent(settings: &Settings) -> sys::Settings {
+    // SAFETY: they are laid out so, and any numbers may stand there.
+    unsafe { transmute::<Settings, sys::Settings>(*settings) }
+}
+
+fn write_records(call: &mut WriteRecords) -> (u8, Handed) {
+    let settings = as_lent(&call.settings);
+    let (pointer, length) = (pointer_mut(&mut call.buffer), length(&call.buffer));
+    // SAFETY: the pointer leads to its length of bytes.
+    let written = unsafe { sys::slipwattle_write_records(settings, pointer, length) };
+    let length = written.length;
+    (written.number, Handed::Written { length })
 }

@@ -5,12 +5,14 @@ mod program;
 mod reference;
 mod safe_crate;
 
-pub use self::reference::Reference;
-pub use boundary::Boundary;
+pub use self::reference::{Reference, records as as_records};
+pub use boundary::{Boundary, as_lent};
 pub use safe_crate::SafeCrate;
 
+use crate::buffer::Bytes;
 use crate::call::Call;
 use crate::given::Given;
+use crate::settings::Settings;
 
 pub trait Service {
     /// What a reader knows the program as.
@@ -24,6 +26,9 @@ pub trait Service {
     /// Makes one call on the table that the last start left, or on a table with no bridges before any start. The call's buffers are
     /// what is lent: the service leaves them as the call left them.
     fn call(&mut self, call: &mut Call) -> Given;
+
+    /// Reads the revision 1 records of a block, each with the flag 1; or gives a refusal's number.
+    fn read(&mut self, block: &Bytes) -> Result<Settings, u8>;
 }
 
 /// Two programs under comparison, made anew for each list.

@@ -2,10 +2,13 @@
 
 use crate::given::Handed;
 
-/// Declares a package as a service. Beside it stand the package's `start`, `no_bridges` and `address`.
+/// Declares a package as a service. Beside it stand the package's `start`, `no_bridges`, `address`, `write` and `read`.
 macro_rules! program {
     ($program:ident, $package:ident) => {
-        use $package::{BridgeNumber, Refusal, SessionNumber, Table};
+        use $package::{
+            BridgeNumber, ExpressSetting, Masks, PciSetting, PciXSetting, Refusal, SessionNumber,
+            Settings as Records, Table,
+        };
 
         /// The package, with the table that the last start left.
         pub struct $program {
@@ -41,6 +44,7 @@ macro_rules! program {
                     Call::Locate(call) => self.locate(call),
                     Call::FindRecord(call) => find_record(call),
                     Call::FindImage(call) => find_image(call),
+                    Call::WriteRecords(call) => write_records(call),
                     Call::RegisterValues(call) => self.register_values(call),
                 }
             }
@@ -112,6 +116,85 @@ macro_rules! program {
             let rom = call.rom.lent();
             let image = $package::find_image(rom, call.vendor, call.device, call.code_type)?;
             Ok(image_position(image, rom))
+        }
+
+        fn write_records(call: &mut WriteRecords) -> Result<Handed, Refusal> {
+            let length = write(&records(&call.settings), call.buffer.lent_mut())?;
+            Ok(Handed::Written { length })
+        }
+
+        fn read_records(block: &Bytes) -> Result<Settings, u8> {
+            let records = read(block.lent()).map_err(Refusal::number)?;
+            Ok(settings(&records))
+        }
+
+        /// The present records.
+        pub fn records(settings: &Settings) -> Records {
+            let [pci, pci_x, express] = [0, 1, 2].map(|record_type| settings.of_type(record_type));
+            let masks = |register: usize| Masks {
+                and: express[2 * register],
+                or: express[2 * register + 1],
+            };
+            Records {
+                pci: settings.is_present(0).then(|| PciSetting {
+                    cache_line_size: pci[0],
+                    latency_timer: pci[1],
+                    enable_serr: pci[2],
+                    enable_perr: pci[3],
+                }),
+                pci_x: settings.is_present(1).then(|| PciXSetting {
+                    maximum_memory_read_byte_count: pci_x[0],
+                    average_maximum_outstanding_split_transactions: pci_x[1],
+                    total_maximum_outstanding_split_transactions: pci_x[2],
+                }),
+                express: settings.is_present(2).then(|| ExpressSetting {
+                    uncorrectable_error_mask: masks(0),
+                    uncorrectable_error_severity: masks(1),
+                    correctable_error_mask: masks(2),
+                    advanced_error_capabilities_and_control: masks(3),
+                    device_control: masks(4),
+                    link_control: masks(5),
+                    secondary_uncorrectable_error_severity: masks(6),
+                    secondary_uncorrectable_error_mask: masks(7),
+                }),
+            }
+        }
+
+        /// The records with the flag 1.
+        fn settings(records: &Records) -> Settings {
+            let mut settings = Settings::default();
+            if let Some(pci) = records.pci {
+                let numbers = [
+                    pci.cache_line_size,
+                    pci.latency_timer,
+                    pci.enable_serr,
+                    pci.enable_perr,
+                ];
+                settings.put(0, &numbers);
+            }
+            if let Some(pci_x) = records.pci_x {
+                let numbers = [
+                    pci_x.maximum_memory_read_byte_count,
+                    pci_x.average_maximum_outstanding_split_transactions,
+                    pci_x.total_maximum_outstanding_split_transactions,
+                ];
+                settings.put(1, &numbers);
+            }
+            if let Some(express) = records.express {
+                let pairs = [
+                    express.uncorrectable_error_mask,
+                    express.uncorrectable_error_severity,
+                    express.correctable_error_mask,
+                    express.advanced_error_capabilities_and_control,
+                    express.device_control,
+                    express.link_control,
+                    express.secondary_uncorrectable_error_severity,
+                    express.secondary_uncorrectable_error_mask,
+                ];
+                let pairs = pairs.map(|masks| [masks.and, masks.or]);
+                settings.put(2, pairs.as_flattened());
+            }
+            settings
         }
 
         impl Default for $program {

@@ -4,11 +4,14 @@ use reference::BridgeRow;
 
 use super::Service;
 use super::program::{image_position, program, record_position};
+use crate::buffer::Bytes;
 use crate::call::{
     Address, Call, FindImage, FindRecord, Locate, Osc, RegisterValues, Report, Reset, Start,
+    WriteRecords,
 };
 use crate::given::{Given, Handed};
 use crate::row::Row;
+use crate::settings::Settings;
 
 program!(Reference, reference);
 
@@ -19,6 +22,10 @@ impl Service for Reference {
 
     fn call(&mut self, call: &mut Call) -> Given {
         self.made(call)
+    }
+
+    fn read(&mut self, block: &Bytes) -> Result<Settings, u8> {
+        read_records(block)
     }
 }
 
@@ -52,4 +59,12 @@ fn address(table: &Table, call: &Address) -> Result<u64, Refusal> {
         call.offset,
         call.width,
     )
+}
+
+fn write(records: &Records, buffer: &mut [u8]) -> Result<usize, Refusal> {
+    reference::write_records(*records, buffer)
+}
+
+fn read(block: &[u8]) -> Result<Records, Refusal> {
+    reference::read_records(block)
 }

@@ -4,13 +4,16 @@ use slipwattle::{BridgeKind, BridgeRow, Place};
 
 use super::Service;
 use super::program::{image_position, program, record_position};
+use crate::buffer::Bytes;
 use crate::call::{
     Address, Call, FindImage, FindRecord, Locate, Osc, RegisterValues, Report, Reset, Start,
+    WriteRecords,
 };
 use crate::given::{Given, Handed};
 use crate::mcfg;
 use crate::random::Random;
 use crate::row::{CONVENTIONAL, EXPRESS, Row};
+use crate::settings::Settings;
 
 program!(SafeCrate, slipwattle);
 
@@ -29,6 +32,10 @@ impl Service for SafeCrate {
 
     fn call(&mut self, call: &mut Call) -> Given {
         self.made(call)
+    }
+
+    fn read(&mut self, block: &Bytes) -> Result<Settings, u8> {
+        read_records(block)
     }
 }
 
@@ -76,4 +83,19 @@ fn place(call: &Address) -> Option<Place> {
         function: call.function.try_into().ok()?,
         offset: call.offset.try_into().ok()?,
     })
+}
+
+/// How many bytes the block has. It is a part of the buffer, at its start; one that lies elsewhere has `usize::MAX`.
+fn write(records: &Records, buffer: &mut [u8]) -> Result<usize, Refusal> {
+    let start = buffer.as_ptr();
+    let block = records.write(buffer)?;
+    if block.as_ptr() == start {
+        Ok(block.len())
+    } else {
+        Ok(usize::MAX)
+    }
+}
+
+fn read(block: &[u8]) -> Result<Records, Refusal> {
+    Records::read(block)
 }

@@ -93,9 +93,9 @@ fn a_byte_changed_in_a_rom() {
     assert_eq!(search.rom.lent().len(), UNIT);
 }
 
-fn panics_without_a_record(wrong: &mut Wrong, call: &mut Call) -> Given {
+fn panics_at_an_unsound_block(wrong: &mut Wrong, call: &mut Call) -> Given {
     let given = wrong.reference.call(call);
-    if let (9, Call::FindRecord(_)) = (given.number, call) {
+    if let (8, Call::FindRecord(_)) = (given.number, call) {
         panic!("the test expects this");
     }
     given
@@ -103,6 +103,6 @@ fn panics_without_a_record(wrong: &mut Wrong, call: &mut Call) -> Given {
 
 #[test]
 fn a_panic() {
-    let found = found(|| pair(panics_without_a_record));
+    let found = found(|| pair(panics_at_an_unsound_block));
     assert_eq!(short_names(&found), ["find_record"]);
 }

@@ -12,6 +12,7 @@ mod roms;
 mod sessions;
 mod sizes;
 mod sums;
+mod writer;
 mod wrong;
 
 use trials::counts::Counts;

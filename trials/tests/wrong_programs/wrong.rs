@@ -2,12 +2,14 @@
 
 use std::collections::HashMap;
 
+use trials::buffer::Bytes;
 use trials::call::{Call, Osc, Start};
 use trials::counts::Counts;
 use trials::exhaustive;
 use trials::given::Given;
 use trials::random_trials::{self, Found, Setting};
 use trials::service::{Pair, Reference, Service};
+use trials::settings::Settings;
 
 pub type Rule = fn(&mut Wrong, &mut Call) -> Given;
 
@@ -30,6 +32,10 @@ impl Service for Wrong {
         }
         (self.rule)(self, call)
     }
+
+    fn read(&mut self, block: &Bytes) -> Result<Settings, u8> {
+        self.reference.read(block)
+    }
 }
 
 pub fn pair(rule: Rule) -> Pair {
@@ -45,13 +51,15 @@ pub fn pair(rule: Rule) -> Pair {
     }
 }
 
-/// The reference, asked another call; the answer to an _OSC call is handed on.
+/// The reference, asked another call; what it leaves in the buffer that it may write in is handed on.
 pub fn instead(wrong: &mut Wrong, call: &mut Call, change: fn(&mut Call)) -> Given {
     let mut changed = call.clone();
     change(&mut changed);
     let given = wrong.reference.call(&mut changed);
-    if let (Call::Osc(osc), Call::Osc(changed)) = (call, changed) {
-        osc.answer = changed.answer;
+    match (call, changed) {
+        (Call::Osc(osc), Call::Osc(changed)) => osc.answer = changed.answer,
+        (Call::WriteRecords(write), Call::WriteRecords(changed)) => write.buffer = changed.buffer,
+        _ => {}
     }
     given
 }

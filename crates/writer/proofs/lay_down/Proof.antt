@@ -9,7 +9,7 @@ use borrow.Author.Needs.{needs}
 use Rattle.rules.specs.Writer.{ifPresent, laidDown}
 use Rattle.rules.specs.declared.Settings.{Settings}
 use Rattle.writer.specs.Splices.{splice}
-use Rattle.writer.proofs.Present.{laidPci, laidPciX, laidExpress, laid-three, laid-lengths}
+use Rattle.writer.proofs.Present.{pciIn, pciXIn, expressIn, laid-three, laid-lengths}
 use Rattle.writer.proofs.Splicing.{three-written}
 use Rattle.writer.proofs.lay_down.Statement.{statement}
 use Rattle.writer.proofs.lay_down.Tie as tie
@@ -26,13 +26,13 @@ module _ (flag type at : ℕ) (v w : List ℕ) (e : v ≡ w) where
 abbrev settings : tie.After-write-if → Settings
 settings c = c .before .before .before .before .before .args .s
 
-first-ends : (c : tie.After-write-if) → c .write-if .result ≡ length (laidPci (settings c)) + 0
+first-ends : (c : tie.After-write-if) → c .write-if .result ≡ length (laidDown (pciIn (settings c))) + 0
 first-ends c = ends (settings c .«has_pci») 0 0 _ _ (c .before .before .pci-numbers .ensures) (c .write-if .result) (c .write-if .ensures .0)
 
 abbrev behind : tie.After-write-if2 → tie.After-write-if
 behind c = c .before .before .before .before .before .before
 
-second-ends : (c : tie.After-write-if2) → c .write-if2 .result ≡ length (laidPciX (settings (behind c))) + behind c .write-if .result
+second-ends : (c : tie.After-write-if2) → c .write-if2 .result ≡ length (laidDown (pciXIn (settings (behind c)))) + behind c .write-if .result
 second-ends c =
     ends (settings (behind c) .«has_pci_x») 1 (behind c .write-if .result) _ _ (c .before .before .pci-x-numbers .ensures) (c .write-if2 .result) (c .write-if2 .ensures .0)
 
@@ -58,7 +58,7 @@ returns c =
     let w = behind x in
     let s = settings w in
     let b = now (w .before .before .before .before .before .args .buffer) in
-    three-written (laidPci s) (laidPciX s) (laidExpress s) b _ _ _ (w .write-if .result) (x .write-if2 .result) (first-ends w) (second-ends x)
+    three-written (laidDown (pciIn s)) (laidDown (pciXIn s)) (laidDown (expressIn s)) b _ _ _ (w .write-if .result) (x .write-if2 .result) (first-ends w) (second-ends x)
     (holds (s .«has_pci») 0 0 _ _ (w .before .before .pci-numbers .ensures) b _ (w .write-if .ensures .1))
     (holds (s .«has_pci_x») 1 (w .write-if .result) _ _ (x .before .before .pci-x-numbers .ensures) _ _ (x .write-if2 .ensures .1))
     (holds (s .«has_express») 2 (x .write-if2 .result) _ _ (y .before .before .express-numbers .ensures) _ _ (y .write-if3 .ensures .1))

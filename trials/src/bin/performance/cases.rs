@@ -12,6 +12,7 @@ use crate::inputs::{
 };
 use crate::requests::{Request, our_osc, tables_that_hold, taking, their_osc};
 use crate::roms;
+use crate::writer;
 
 /// What is done with each case: the proved library's call and the reference's.
 pub trait Runner {
@@ -48,6 +49,7 @@ pub fn all(run: &mut impl Runner) {
     );
     records(run);
     roms::images(run);
+    writer::writes(run);
     register_values(run, "register values, AER held, 71 bytes", 0x1F, &type_2());
     register_values(
         run,

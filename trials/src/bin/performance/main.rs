@@ -11,6 +11,7 @@ mod requests;
 mod roms;
 mod sums;
 mod timing;
+mod writer;
 
 use std::process::ExitCode;
 

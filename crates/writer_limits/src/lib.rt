@@ -1,0 +1,13 @@
+// The limits of the writer of record blocks: document 02, g.
+
+mod buffers;
+mod reading;
+mod values;
+mod writing;
+
+pub fn lines() {
+    print::text(b"Written record blocks\n");
+    values::lines();
+    buffers::lines();
+    reading::lines();
+}
