@@ -8,8 +8,8 @@ use crate::sys::{self, ExpressSetting, Masks, PciSetting, PciXSetting};
 /// The revision 1 records of a block, at most one of each type. By default there is none.
 ///
 /// What [`write`](Settings::write) wrote is read back by [`read`](Settings::read) as the same settings, and a sound block of revision 1
-/// records of types 0 to 2 alone, in rising order, read and written again gives the same bytes. Both are proved but for how `read` takes
-/// the numbers out of a record that was found, which is tested.
+/// records of types 0 to 2 alone, in rising order, read and written again gives the same bytes. Both are proved of the library's writer and
+/// record search; how this crate hands settings over, and takes the numbers out of a record that was found, is tested.
 ///
 /// ```
 /// use slipwattle::{MAX_WRITTEN, PciXSetting, Refusal, Settings};
