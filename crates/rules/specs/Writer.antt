@@ -35,6 +35,7 @@ pciXNumbers p =
     1 ∷ p .«maximum_memory_read_byte_count» ∷ p .«average_maximum_outstanding_split_transactions»
     ∷ p .«total_maximum_outstanding_split_transactions» ∷ []
 
+-- "AND/OR pairs" (document 01)
 abbrev pub pairsOf : List Masks → List ℕ
 pairsOf [] = []
 pairsOf (m ∷ l) = m .and ∷ m .or ∷ pairsOf l
@@ -113,6 +114,7 @@ abbrev pub flagOf : Option Field → ℕ
 flagOf none = 0
 flagOf (some f) = 1
 
+-- the values of each type by its numbers
 abbrev pub pciOf : List ℕ → PciSetting
 pciOf v = record { «cache_line_size» = getD v 1 0; «latency_timer» = getD v 2 0; «enable_serr» = getD v 3 0; «enable_perr» = getD v 4 0 }
 
