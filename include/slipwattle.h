@@ -27,9 +27,9 @@ extern "C" {
 #endif
 
 #define SLIPWATTLE_VERSION_MAJOR 0
-#define SLIPWATTLE_VERSION_MINOR 7
+#define SLIPWATTLE_VERSION_MINOR 8
 #define SLIPWATTLE_VERSION_PATCH 0
-#define SLIPWATTLE_VERSION "0.7.0"
+#define SLIPWATTLE_VERSION "0.8.0"
 
 /* The most rows of a starting list (a table has a bridge for each), the registers of a type 2 record, the most bytes of a ROM, and the most
  * bytes that slipwattle_write_records writes. */
@@ -67,7 +67,7 @@ enum slipwattle_refusal {
     SLIPWATTLE_REFUSAL_ROM = 12,
     /* the ROM's chain of images has none with the asked vendor, device and code type */
     SLIPWATTLE_REFUSAL_NO_IMAGE = 13,
-    /* a value of a record to be written is out of range */
+    /* a value of a record to be written is out of range, or a bit is clear in an AND mask and set in its OR mask */
     SLIPWATTLE_REFUSAL_RECORD_VALUE = 14,
     /* the buffer is too short for the records to be written */
     SLIPWATTLE_REFUSAL_SHORT_BUFFER = 15
@@ -105,7 +105,7 @@ static inline const char *slipwattle_refusal_text(int number) {
     case SLIPWATTLE_REFUSAL_NO_IMAGE:
         return "the ROM's chain of images has none with the asked vendor, device and code type";
     case SLIPWATTLE_REFUSAL_RECORD_VALUE:
-        return "a value of a record to be written is out of range";
+        return "a value of a record to be written is out of range, or a bit is clear in an AND mask and set in its OR mask";
     case SLIPWATTLE_REFUSAL_SHORT_BUFFER:
         return "the buffer is too short for the records to be written";
     default:
@@ -264,7 +264,8 @@ typedef struct {
  *
  * slot, bridge_block: the slot's and the bridge's record blocks, 0 to 4096 bytes each. If the slot's is not empty it alone decides.
  * What is handed back says where the record lies: whether the slot's block decided, the byte of the deciding block where it starts, and
- *    its length, header included. The call takes no table and no session. */
+ *    its length, header included. The call takes no table and no session.
+ * A type 2 record of revision 1 with masks that have no meaning (slipwattle_masks) makes its block unsound, whatever type is asked for. */
 slipwattle_record slipwattle_find_record(const uint8_t *slot, size_t slot_length, const uint8_t *bridge_block, size_t bridge_block_length,
                                          uint32_t type);
 
@@ -283,7 +284,8 @@ typedef struct {
     uint32_t total_maximum_outstanding_split_transactions;   /* at most 7 */
 } slipwattle_pci_x_setting;
 
-/* A register's masks: AND 1 and OR 0 keep a bit, both 0 clear it, both 1 set it. */
+/* A register's masks: AND 1 and OR 0 keep a bit, both 0 clear it, both 1 set it. So AND has the bits to keep or to set, OR
+ * those to set. A bit clear in AND and set in OR has no meaning: 8 in a block, 14 from the writer. */
 typedef struct {
     uint32_t and_mask;
     uint32_t or_mask;

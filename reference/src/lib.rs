@@ -1,8 +1,8 @@
 //! The documents in ordinary Rust: what the random trials and the timings compare with.
 //!
 //! It shares nothing with the proved program but the documents (the modules follow the sections of document 01; `rom` is document 02,
-//! a, and `writer` its g) and the numbers of the two kinds of bridge, 0 and 1. Imports go one way: `bridge` is what the table keeps,
-//! others above it work on one bridge, and `table` is on top.
+//! a, `writer` its g, and `masks` has its h) and the numbers of the two kinds of bridge, 0 and 1. Imports go one way: `bridge` is what
+//! the table keeps, others above it work on one bridge, and `table` is on top.
 #![no_std]
 #![forbid(unsafe_code)]
 
@@ -10,6 +10,7 @@ mod bridge;
 mod buses;
 mod limits;
 mod list;
+mod masks;
 mod mcfg;
 mod osc;
 mod place;
@@ -22,6 +23,7 @@ mod table;
 mod writer;
 
 pub use bridge::{BridgeNumber, SessionNumber};
+pub use masks::Masks;
 pub use mcfg::byte_sum;
 pub use osc::granted;
 pub use place::Place;
@@ -30,6 +32,4 @@ pub use refusal::Refusal;
 pub use rom::find_image;
 pub use rows::BridgeRow;
 pub use table::{Holding, Table};
-pub use writer::{
-    ExpressSetting, Masks, PciSetting, PciXSetting, Settings, read_records, write_records,
-};
+pub use writer::{ExpressSetting, PciSetting, PciXSetting, Settings, read_records, write_records};

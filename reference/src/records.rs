@@ -1,6 +1,7 @@
 //! Record blocks: the _HPX setting records.
 
 use crate::limits::{MAX_BLOCK, MAX_BYTE, MAX_ENABLE, MAX_READ_COUNT, MAX_SPLITS, MAX_WORD};
+use crate::masks::Masks;
 use crate::refusal::Refusal;
 
 /// The type of the PCI setting record.
@@ -87,16 +88,16 @@ fn take_field(block: &[u8]) -> Option<(Field<'_>, &[u8])> {
     if u32::from_le_bytes(*revision) != REVISION {
         return Some((Field::Skipped, after));
     }
-    if !within_limits(tag, numbers) {
+    if !allowed(tag, numbers) {
         return None;
     }
     let field = &block[..FIELD_HEADER + length];
     Some((Field::Record(tag, Record { field, numbers }), after))
 }
 
-/// Whether the numbers after revision 1 are as many as the type has, and none is too large.
+/// Whether the numbers after revision 1 are as many as the type has, none is too large, and every pair of masks has a meaning.
 #[inline]
-fn within_limits(tag: u8, numbers: &[Number]) -> bool {
+fn allowed(tag: u8, numbers: &[Number]) -> bool {
     match (tag, numbers) {
         (PCI, [cache_line, latency, serr, perr]) => {
             at_most(MAX_BYTE, [cache_line, latency]) && at_most(MAX_ENABLE, [serr, perr])
@@ -106,10 +107,20 @@ fn within_limits(tag: u8, numbers: &[Number]) -> bool {
                 && at_most(MAX_SPLITS, [average_splits, total_splits])
         }
         (PCI_EXPRESS, [_, _, _, _, _, _, _, _, words @ .., _, _, _, _]) if words.len() == 4 => {
-            at_most(MAX_WORD, words)
+            at_most(MAX_WORD, words) && pairs(numbers).all(Masks::meaningful)
         }
         _ => false,
     }
+}
+
+/// The masks of a PCI Express setting record, by its numbers after the revision.
+#[inline]
+pub(crate) fn pairs(numbers: &[Number]) -> impl Iterator<Item = Masks> {
+    let (pairs, _) = numbers.as_chunks();
+    pairs.iter().map(|&[and, or]| Masks {
+        and: u32::from_le_bytes(and),
+        or: u32::from_le_bytes(or),
+    })
 }
 
 /// Whether none of the numbers is above the limit.

@@ -4,12 +4,11 @@ use core::ops::Range;
 
 use crate::bridge::Bridge;
 use crate::limits::MAX_WORD;
+use crate::masks::REGISTERS;
 use crate::osc::{AER, EXPRESS_HOT_PLUG};
-use crate::records::{PCI_EXPRESS, search};
+use crate::records::{PCI_EXPRESS, pairs, search};
 use crate::refusal::Refusal;
 
-/// The registers of the PCI Express setting record.
-const REGISTERS: usize = 8;
 /// Device Control and Link Control, the 16-bit registers; the other six are the error registers.
 const CONTROL: Range<usize> = DEVICE_CONTROL..6;
 const DEVICE_CONTROL: usize = 4;
@@ -34,10 +33,9 @@ impl Bridge {
             return Err(Refusal::Registers);
         }
         let record = search(slot, bridge_block, PCI_EXPRESS.into())?;
-        let (pairs, _) = record.numbers.as_chunks::<2>();
         let mut values = *current;
-        for (value, [and_mask, or_mask]) in values.iter_mut().zip(pairs) {
-            *value = (*value & u32::from_le_bytes(*and_mask)) | u32::from_le_bytes(*or_mask);
+        for (value, masks) in values.iter_mut().zip(pairs(record.numbers)) {
+            *value = masks.new_value(*value);
         }
         if held & AER != 0 {
             values[..CONTROL.start].copy_from_slice(&current[..CONTROL.start]);

@@ -2,7 +2,8 @@
 
 use core::array;
 
-use crate::limits::{MAX_BYTE, MAX_ENABLE, MAX_READ_COUNT, MAX_SPLITS, MAX_WORD};
+use crate::limits::{MAX_BYTE, MAX_ENABLE, MAX_READ_COUNT, MAX_SPLITS};
+use crate::masks::{Masks, REGISTERS};
 use crate::records::{FIELD_HEADER, PCI, PCI_EXPRESS, PCI_X, REVISION, search};
 use crate::refusal::Refusal;
 
@@ -11,7 +12,7 @@ const PCI_NUMBERS: usize = 5;
 /// Numbers of a PCI-X setting record's value, revision included.
 const PCI_X_NUMBERS: usize = 4;
 /// Numbers of a PCI Express setting record's value, revision included.
-const EXPRESS_NUMBERS: usize = 17;
+const EXPRESS_NUMBERS: usize = 1 + 2 * REGISTERS;
 
 /// The records of a block: at most one of each type. By default there is none.
 #[derive(Clone, Copy, Debug, Default, PartialEq, Eq)]
@@ -48,15 +49,6 @@ pub struct PciXSetting {
     pub total_maximum_outstanding_split_transactions: u32,
 }
 
-/// The masks for a register.
-#[derive(Clone, Copy, Debug, Default, PartialEq, Eq)]
-pub struct Masks {
-    /// The AND mask.
-    pub and: u32,
-    /// The OR mask.
-    pub or: u32,
-}
-
 /// A PCI Express setting record, table 6-9.
 #[derive(Clone, Copy, Debug, Default, PartialEq, Eq)]
 pub struct ExpressSetting {
@@ -81,7 +73,7 @@ pub struct ExpressSetting {
 /// Writes the records, which it takes by value, at the buffer's start, by rising type, and gives their length, or refusal 14 or 15.
 #[inline(never)]
 pub fn write_records(settings: Settings, buffer: &mut [u8]) -> Result<usize, Refusal> {
-    if !settings.within_limits() {
+    if !settings.allowed() {
         return Err(Refusal::RecordValue);
     }
     let length = settings.length();
@@ -143,14 +135,11 @@ fn read_numbers<const N: usize>(block: &[u8], tag: u8) -> Result<Option<[u32; N]
 }
 
 impl Settings {
-    /// Whether no value of a present record is too large.
-    fn within_limits(&self) -> bool {
+    /// Whether no value of a present record is too large, and every pair of masks has a meaning.
+    fn allowed(&self) -> bool {
         self.pci.as_ref().is_none_or(PciSetting::within_limits)
             && self.pci_x.as_ref().is_none_or(PciXSetting::within_limits)
-            && self
-                .express
-                .as_ref()
-                .is_none_or(ExpressSetting::within_limits)
+            && self.express.as_ref().is_none_or(ExpressSetting::allowed)
     }
 
     /// Bytes of the present records.
@@ -223,40 +212,36 @@ impl PciXSetting {
     }
 }
 
-impl Masks {
-    /// Whether the masks are for a 16-bit register.
-    fn within_word(&self) -> bool {
-        self.and <= MAX_WORD && self.or <= MAX_WORD
-    }
-}
-
 impl ExpressSetting {
-    /// Whether no value is too large.
-    fn within_limits(&self) -> bool {
-        self.device_control.within_word() && self.link_control.within_word()
+    /// Whether no value is too large and every pair has a meaning.
+    fn allowed(&self) -> bool {
+        self.device_control.within_word()
+            && self.link_control.within_word()
+            && self.pairs().into_iter().all(Masks::meaningful)
+    }
+
+    /// The pairs in the order of table 6-9.
+    fn pairs(&self) -> [Masks; REGISTERS] {
+        [
+            self.uncorrectable_error_mask,
+            self.uncorrectable_error_severity,
+            self.correctable_error_mask,
+            self.advanced_error_capabilities_and_control,
+            self.device_control,
+            self.link_control,
+            self.secondary_uncorrectable_error_severity,
+            self.secondary_uncorrectable_error_mask,
+        ]
     }
 
     /// The numbers of the record's value.
     fn numbers(&self) -> [u32; EXPRESS_NUMBERS] {
-        [
-            REVISION,
-            self.uncorrectable_error_mask.and,
-            self.uncorrectable_error_mask.or,
-            self.uncorrectable_error_severity.and,
-            self.uncorrectable_error_severity.or,
-            self.correctable_error_mask.and,
-            self.correctable_error_mask.or,
-            self.advanced_error_capabilities_and_control.and,
-            self.advanced_error_capabilities_and_control.or,
-            self.device_control.and,
-            self.device_control.or,
-            self.link_control.and,
-            self.link_control.or,
-            self.secondary_uncorrectable_error_severity.and,
-            self.secondary_uncorrectable_error_severity.or,
-            self.secondary_uncorrectable_error_mask.and,
-            self.secondary_uncorrectable_error_mask.or,
-        ]
+        let mut numbers = [REVISION; EXPRESS_NUMBERS];
+        let (places, _) = numbers[1..].as_chunks_mut();
+        for (place, masks) in places.iter_mut().zip(self.pairs()) {
+            *place = [masks.and, masks.or];
+        }
+        numbers
     }
 
     /// The setting with these numbers after the revision.

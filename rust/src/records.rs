@@ -6,6 +6,8 @@ use crate::sys;
 /// slot's block is not empty it alone decides. The record is a part of the block that decided, its three bytes of header included;
 /// [`Settings::read`](crate::Settings::read) gives the values of a block's records.
 ///
+/// A type 2 record of revision 1 with [`Masks`](crate::Masks) that have no meaning makes its block unsound, whatever type is asked for.
+///
 /// # Errors
 ///
 /// [`RecordBlock`](Refusal::RecordBlock), then [`NoRecord`](Refusal::NoRecord).

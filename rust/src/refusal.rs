@@ -43,7 +43,7 @@ pub enum Refusal {
     Rom = 12,
     /// The ROM's chain of images has none with the asked vendor, device and code type.
     NoImage = 13,
-    /// A value of a record to be written is out of range.
+    /// A value of a record to be written is out of range, or a bit is clear in an AND mask and set in its OR mask.
     RecordValue = 14,
     /// The buffer is too short for the records to be written.
     ShortBuffer = 15,
@@ -102,7 +102,9 @@ impl Refusal {
             Refusal::NoImage => {
                 "the ROM's chain of images has none with the asked vendor, device and code type"
             }
-            Refusal::RecordValue => "a value of a record to be written is out of range",
+            Refusal::RecordValue => {
+                "a value of a record to be written is out of range, or a bit is clear in an AND mask and set in its OR mask"
+            }
             Refusal::ShortBuffer => "the buffer is too short for the records to be written",
         }
     }

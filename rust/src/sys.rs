@@ -189,7 +189,8 @@ pub struct PciXSetting {
     pub total_maximum_outstanding_split_transactions: u32,
 }
 
-/// `slipwattle_masks`: a register's masks. AND 1 and OR 0 keep a bit, both 0 clear it, both 1 set it. The header has `and_mask` and
+/// `slipwattle_masks`: a register's masks. AND 1 and OR 0 keep a bit, both 0 clear it, both 1 set it. So AND has the bits to keep or to
+/// set, OR those to set. A bit clear in AND and set in OR has no meaning: 8 in a block, 14 from the writer. The header has `and_mask` and
 /// `or_mask`, since `and` and `or` are operators in C++.
 #[repr(C)]
 #[derive(Clone, Copy, Debug, PartialEq, Eq)]

@@ -76,15 +76,22 @@ fn taken(control: u32) -> Table {
     table
 }
 
-/// A type 2 record whose pairs are AND 0xFFF0, OR 6.
+/// A type 2 record whose pairs are AND 0xFFF6, OR 6.
 fn type_2() -> Vec<u8> {
-    same_pairs([0xFFF0, 6])
+    same_pairs([0xFFF6, 6])
 }
 
 /// A type 2 record with the same AND and OR mask for every register.
 fn same_pairs(masks: [u32; 2]) -> Vec<u8> {
     let mut record = vec![2, 68, 0, 1, 0, 0, 0];
     record.extend(masks.map(u32::to_le_bytes).as_flattened().repeat(8));
+    record
+}
+
+/// A type 2 record with these masks for one register, which keeps the others.
+fn one_pair(k: usize, masks: [u32; 2]) -> Vec<u8> {
+    let mut record = same_pairs([0xFFFF, 0]);
+    record[7 + 8 * k..][..8].copy_from_slice(masks.map(u32::to_le_bytes).as_flattened());
     record
 }
 
@@ -400,6 +407,45 @@ fn register_values_keep_the_payload_sizes_of_device_control() {
     assert_eq!(set, but_device_control(0xFFFF, 0x8F1F));
     let cleared = values(0xFFFF, [0, 0]);
     assert_eq!(cleared, but_device_control(0, 0x70E0));
+}
+
+#[test]
+fn register_values_are_each_by_their_own_pair() {
+    let table = taken(HOT_PLUG);
+    let becomes = |k: usize, masks, value| {
+        let record = one_pair(k, masks);
+        let new = table.register_values(CLASS, CLASS_BRIDGE, &record, TYPE_1, &[0x1234; 8]);
+        let mut expect = [0x1234; 8];
+        expect[k] = value;
+        assert_eq!(new, Ok(expect));
+    };
+    // Bits 0 to 3 and 12 to 15 are kept, 4 to 7 cleared, 8 to 11 set.
+    for k in [0, 1, 2, 3, 5, 6, 7] {
+        becomes(k, [0xFF0F, 0x0F00], 0x1F04);
+    }
+    becomes(4, [0xFF0F, 0x0F00], 0x1F24);
+    for k in [0, 1, 2, 3, 6, 7] {
+        becomes(k, [u32::MAX, 1 << 31 | 1], 0x8000_1235);
+    }
+}
+
+#[test]
+fn register_values_are_refused_where_masks_have_no_meaning() {
+    // Where AER is held six of the pairs are not used, but judged all the same.
+    for control in [HOT_PLUG, HOT_PLUG | CONTROL_AER] {
+        let table = taken(control);
+        let values =
+            |record: &[u8]| table.register_values(CLASS, CLASS_BRIDGE, record, &type_2(), &[0; 8]);
+        for k in 0..8 {
+            for masks in [[0xFFFE, 1], [0xFFF0, 6], [u32::MAX >> 1, 1 << 31]] {
+                let mut record = one_pair(k, masks);
+                assert_eq!(values(&record), Err(Refusal::RecordBlock));
+                // Another revision is skipped.
+                record[3] = 2;
+                assert_eq!(values(&record), Err(Refusal::NoRecord));
+            }
+        }
+    }
 }
 
 /// A call for each refusal, in the order of their numbers.

@@ -1,4 +1,4 @@
-//! Record blocks written and read: document 02, g. What is expected is worked out from the documents.
+//! Record blocks written and read: document 02, g and h. What is expected is worked out from the documents.
 use slipwattle::{
     ExpressSetting, MAX_WRITTEN, Masks, PciSetting, PciXSetting, Refusal, Settings, find_record,
 };
@@ -161,6 +161,9 @@ fn values_have_limits() {
     for (value, limit) in LIMITED {
         let with = |number| {
             let mut settings = ALL;
+            // Beside these a mask may have any value up to its limit.
+            express(&mut settings).device_control = masks(65535, 0);
+            express(&mut settings).link_control = masks(65535, 0);
             *value(&mut settings) = number;
             settings
         };
@@ -198,6 +201,106 @@ fn the_other_masks_have_none() {
     let block = [&head[..], &[0xFF; 32], &[0; 16], &[0xFF; 16]].concat();
     assert_eq!(write(settings, 71).as_ref(), Ok(&block));
     assert_eq!(Settings::read(&block), Ok(settings));
+}
+
+/// The pairs of a type 2 record by where they stand.
+const PAIRS: [fn(&mut ExpressSetting) -> &mut Masks; 8] = [
+    |e| &mut e.uncorrectable_error_mask,
+    |e| &mut e.uncorrectable_error_severity,
+    |e| &mut e.correctable_error_mask,
+    |e| &mut e.advanced_error_capabilities_and_control,
+    |e| &mut e.device_control,
+    |e| &mut e.link_control,
+    |e| &mut e.secondary_uncorrectable_error_severity,
+    |e| &mut e.secondary_uncorrectable_error_mask,
+];
+
+/// `ALL` with another pair for one register, and its block.
+fn with_pair(k: usize, pair: Masks) -> (Settings, Vec<u8>) {
+    let mut settings = ALL;
+    *PAIRS[k](express(&mut settings)) = pair;
+    let (_, mut block) = chosen(0b111);
+    let numbers = [pair.and, pair.or].map(u32::to_le_bytes);
+    block[49 + 8 * k..][..8].copy_from_slice(numbers.as_flattened());
+    (settings, block)
+}
+
+fn is_written_and_read(k: usize, pair: Masks) {
+    let (settings, block) = with_pair(k, pair);
+    assert_eq!(write(settings, MAX_WRITTEN).as_ref(), Ok(&block));
+    assert_eq!(Settings::read(&block), Ok(settings));
+}
+
+fn is_refused(k: usize, pair: Masks) {
+    let (settings, mut block) = with_pair(k, pair);
+    for length in [0, MAX_WRITTEN - 1, MAX_WRITTEN] {
+        assert_eq!(write(settings, length), Err(Refusal::RecordValue));
+    }
+    assert_eq!(Settings::read(&block), Err(Refusal::RecordBlock));
+    for record_type in 0..4 {
+        let found = find_record(&[], &block, record_type);
+        assert_eq!(found, Err(Refusal::RecordBlock));
+    }
+    // Another revision is passed over.
+    block[45] = 2;
+    assert_eq!(Settings::read(&block), Ok(chosen(0b011).0));
+}
+
+#[test]
+fn masks_that_keep_clear_and_set_bits_are_written_and_read() {
+    let word = [
+        masks(0xFFFF, 0),
+        masks(0, 0),
+        masks(0xFFFF, 0xFFFF),
+        masks(0xFF0F, 0x0F00),
+        masks(1, 1),
+        masks(0xFFFF, 1),
+        masks(0x8000, 0x8000),
+    ];
+    let dword = [
+        masks(0x1_0000, 0),
+        masks(u32::MAX, 1),
+        masks(u32::MAX, 1 << 31),
+        masks(1 << 31, 1 << 31),
+    ];
+    for k in 0..8 {
+        for pair in word {
+            is_written_and_read(k, pair);
+        }
+    }
+    for k in [0, 1, 2, 3, 6, 7] {
+        for pair in dword {
+            is_written_and_read(k, pair);
+        }
+    }
+    // Device Control and Link Control have 16 bits.
+    for k in [4, 5] {
+        for pair in dword {
+            is_refused(k, pair);
+        }
+    }
+}
+
+#[test]
+fn a_bit_clear_in_and_and_set_in_or_has_no_meaning() {
+    let senseless = [
+        masks(0, 1),
+        masks(0xFFFE, 1),
+        masks(0x7FFF, 0x8000),
+        masks(0xFFFF, 0x1_0000),
+        masks(u32::MAX >> 1, 1 << 31),
+        // The starred pair of document 01, whole and cut to a word.
+        masks(0xFFFF_FFF0, 6),
+        masks(0xFFF0, 6),
+        // One bit of two, and a pair turned round.
+        masks(1, 3),
+        masks(0x0F00, 0xFF0F),
+    ];
+    for k in 0..8 {
+        for pair in senseless {
+            is_refused(k, pair);
+        }
+    }
 }
 
 #[test]

@@ -1,5 +1,5 @@
 /* The ten calls from C: numbers, results, buffers and tables as include/slipwattle.h promises them, on either side of the limits of rows, framing, places, buses,
- * written records, ROMs and the register list.
+ * written records, masks, ROMs and the register list.
  * Compiled as C11 and as C++17. What is expected is worked out from the documents. */
 #include <assert.h>
 #include <stdio.h>
@@ -432,24 +432,30 @@ static void places_are_refused_in_order(const slipwattle_table *t) {
 static const uint8_t EXAMPLE[42] = {0, 0x14, 0, 1, 0, 0, 0, 8, 0, 0, 0, 0x40, 0, 0, 0, 1, 0, 0, 0, 0, 0,
                                     0, 0, 1, 0x10, 0, 1, 0, 0, 0, 3, 0, 0, 0, 4, 0, 0, 0, 7, 0, 0, 0};
 
+/* The pair of one register in a type 2 record. */
+static void write_pair(uint8_t settings[71], size_t k, uint32_t and_mask, uint32_t or_mask) {
+    size_t i;
+    for (i = 0; i < 4; i++) {
+        settings[7 + 8 * k + i] = (uint8_t)(and_mask >> 8 * i);
+        settings[11 + 8 * k + i] = (uint8_t)(or_mask >> 8 * i);
+    }
+}
+
 /* A type 2 record with the same pair for every register. */
-static void write_pairs(uint8_t settings[71], uint16_t and_mask, uint16_t or_mask) {
+static void write_pairs(uint8_t settings[71], uint32_t and_mask, uint32_t or_mask) {
     size_t k;
     memset(settings, 0, 71);
     settings[0] = 2;
     settings[1] = 68;
     settings[3] = 1;
     for (k = 0; k < SLIPWATTLE_REGISTERS; k++) {
-        settings[7 + 8 * k] = (uint8_t)(and_mask % 256);
-        settings[8 + 8 * k] = (uint8_t)(and_mask / 256);
-        settings[11 + 8 * k] = (uint8_t)(or_mask % 256);
-        settings[12 + 8 * k] = (uint8_t)(or_mask / 256);
+        write_pair(settings, k, and_mask, or_mask);
     }
 }
 
-/* AND 0xFFF0, OR 6. */
+/* AND 0xFFF6, OR 6: bits 0 and 3 are cleared, 1 and 2 set, and of the low 16 the rest kept. */
 static void write_settings(uint8_t settings[71]) {
-    write_pairs(settings, 0xFFF0, 6);
+    write_pairs(settings, 0xFFF6, 6);
 }
 
 static void finds_records(void) {
@@ -647,13 +653,14 @@ static slipwattle_settings with_value(unsigned choice, size_t offset, uint32_t v
     return s;
 }
 
+/* Types 0 and 1; searches_and_writes_each_pair has type 2. */
 static void written_values_have_limits(void) {
     static const struct {
         size_t offset;
         size_t at;
         uint32_t limit;
         unsigned type;
-    } values[11] = {
+    } values[7] = {
         /* offset in the settings, byte of the block, limit, type */
         {offsetof(slipwattle_settings, pci.cache_line_size), 7, 255, 0},
         {offsetof(slipwattle_settings, pci.latency_timer), 11, 255, 0},
@@ -662,22 +669,17 @@ static void written_values_have_limits(void) {
         {offsetof(slipwattle_settings, pci_x.maximum_memory_read_byte_count), 30, 3, 1},
         {offsetof(slipwattle_settings, pci_x.average_maximum_outstanding_split_transactions), 34, 7, 1},
         {offsetof(slipwattle_settings, pci_x.total_maximum_outstanding_split_transactions), 38, 7, 1},
-        {offsetof(slipwattle_settings, express.device_control.and_mask), 81, 65535, 2},
-        {offsetof(slipwattle_settings, express.device_control.or_mask), 85, 65535, 2},
-        {offsetof(slipwattle_settings, express.link_control.and_mask), 89, 65535, 2},
-        {offsetof(slipwattle_settings, express.link_control.or_mask), 93, 65535, 2},
     };
     uint8_t block[113];
     size_t j, k, size;
-    for (k = 0; k < 11; k++) {
+    for (k = 0; k < 7; k++) {
         const size_t offset = values[k].offset, at = values[k].at;
         const uint32_t limit = values[k].limit;
         const unsigned others = 7u ^ 1u << values[k].type;
         /* All but the first would be right if they were cut to a byte or a word, or had a sign. */
         const uint32_t above[5] = {limit + 1, limit + 256, limit + 65536, 0x80000000u, 0xFFFFFFFFu};
         memcpy(block, RECORDS, 113);
-        block[at] = (uint8_t)(limit % 256);
-        block[at + 1] = (uint8_t)(limit / 256);
+        block[at] = (uint8_t)limit;
         CHECK(writes(with_value(7, offset, limit), 113, 0, block, 113));
         size = write_choice(block, others);
         for (j = 0; j < 5; j++) {
@@ -702,6 +704,86 @@ static void other_values_have_none(void) {
     memset(block + 49, 0xFF, 32);
     memset(block + 97, 0xFF, 16);
     CHECK(writes(s, 113, 0, block, 113));
+}
+
+/* Pairs of masks: those of Device Control and Link Control are at most 65535, and a bit clear in AND and set in OR has no meaning in any. */
+static const struct {
+    uint32_t and_mask;
+    uint32_t or_mask;
+    unsigned control;
+    unsigned others;
+} PAIRS[32] = {
+    /* AND, OR, number for Device Control and Link Control, for the others: bits are kept, cleared, set */
+    {0xFFFF, 0, 0, 0}, {0, 0, 0, 0}, {0xFFFF, 0xFFFF, 0, 0}, {0xFF0F, 0x0F00, 0, 0},
+    /* bits 0 and 15 */
+    {1, 0, 0, 0}, {1, 1, 0, 0}, {0xFFFF, 1, 0, 0}, {0x8000, 0, 0, 0}, {0x8000, 0x8000, 0, 0}, {0xFFFF, 0x8000, 0, 0},
+    /* above 65535; some would be right if they were cut to a word */
+    {0x10000, 0, 8, 0}, {0x1FFFF, 0, 8, 0}, {0x1FFFF, 0x1FFFF, 8, 0}, {0x80000000u, 0, 8, 0}, {0x80000000u, 0x80000000u, 8, 0},
+    {0xFFFFFFFFu, 0, 8, 0}, {0xFFFFFFFFu, 0x80000001u, 8, 0}, {0xFFFFFFFFu, 0xFFFFFFFFu, 8, 0},
+    /* no meaning: bits 0, 15, 16 and 31, alone and beside others */
+    {0, 1, 8, 8}, {0xFFFE, 1, 8, 8}, {0xFFFFFFFEu, 1, 8, 8}, {0, 0x8000, 8, 8}, {0x7FFF, 0x8000, 8, 8}, {0xFFFF, 0x10000, 8, 8},
+    {0xFFFF, 0x1FFFF, 8, 8}, {0, 0x80000000u, 8, 8}, {0x7FFFFFFF, 0x80000000u, 8, 8}, {0x7FFFFFFF, 0xFFFFFFFFu, 8, 8},
+    /* the starred pair of document 01, whole and cut to a word; one bit of two; the fourth pair turned round */
+    {0xFFFFFFF0u, 6, 8, 8}, {0xFFF0, 6, 8, 8}, {1, 3, 8, 8}, {0x0F00, 0xFF0F, 8, 8},
+};
+
+/* 0, or 8 where pair j is not one of register k. */
+static unsigned refusal_of_pair(size_t j, size_t k) {
+    return k == 4 || k == 5 ? PAIRS[j].control : PAIRS[j].others;
+}
+
+/* The example's records, and a type 2 record with pair j for register k, where the other registers are kept. */
+static void write_with_pair(uint8_t block[42 + 71], size_t j, size_t k) {
+    memcpy(block, EXAMPLE, 42);
+    write_pairs(block + 42, 0xFFFF, 0);
+    write_pair(block + 42, k, PAIRS[j].and_mask, PAIRS[j].or_mask);
+}
+
+static void searches_with_pair(size_t j, size_t k) {
+    static const uint8_t skipped[3][2] = {{0, 0}, {2, 0}, {1, 1}};
+    const unsigned number = refusal_of_pair(j, k);
+    uint8_t block[42 + 71];
+    uint32_t type;
+    size_t i;
+    write_with_pair(block, j, k);
+    for (type = 0; type <= 2; type++) {
+        CHECK(slipwattle_find_record(block, sizeof block, EXAMPLE, 42, type).number == number);
+    }
+    CHECK(slipwattle_find_record(block, sizeof block, EXAMPLE, 42, 3).number == (number == 0 ? 9 : 8));
+    /* The bridge's block does not count beside the slot's, and another revision, 0, 2 or 257, is skipped. */
+    CHECK(slipwattle_find_record(EXAMPLE, 42, block, sizeof block, 0).number == 0);
+    for (i = 0; i < 3; i++) {
+        memcpy(block + 45, skipped[i], 2);
+        CHECK(slipwattle_find_record(block, sizeof block, NULL, 0, 0).number == 0);
+        CHECK(slipwattle_find_record(block, sizeof block, NULL, 0, 2).number == 9);
+    }
+}
+
+/* Written, or refused where a block with it is unsound. */
+static void writes_with_pair(size_t j, size_t k) {
+    const slipwattle_masks pair = masks(PAIRS[j].and_mask, PAIRS[j].or_mask);
+    const bool sound = refusal_of_pair(j, k) == 0;
+    slipwattle_settings s = chosen(7);
+    uint8_t block[113];
+    memcpy((uint8_t *)&s.express + 8 * k, &pair, sizeof pair);
+    memcpy(block, RECORDS, 113);
+    write_pair(block + 42, k, pair.and_mask, pair.or_mask);
+    CHECK(sound ? writes(s, 113, 0, block, 113) : refuses(s, 113, 14));
+    CHECK(refuses(s, 112, sound ? 15 : 14));
+    CHECK(refuses(s, 0, sound ? 15 : 14));
+    /* In an absent record it counts for nothing. */
+    s.has_express = 0;
+    CHECK(writes(s, 113, 0, RECORDS, 42));
+}
+
+static void searches_and_writes_each_pair(void) {
+    size_t j, k;
+    for (j = 0; j < 32; j++) {
+        for (k = 0; k < SLIPWATTLE_REGISTERS; k++) {
+            searches_with_pair(j, k);
+            writes_with_pair(j, k);
+        }
+    }
 }
 
 /* An image by hand, of so many units of 512 bytes: vendor 0x1234, device 0x5678, UEFI. The indicator 0x80 makes it the last. */
@@ -931,6 +1013,66 @@ static void keeps_payload_sizes(const slipwattle_table *t) {
     }
 }
 
+/* Register values of session 1 on bridge 0, with each pair in the slot's block, and with another revision, which is skipped. */
+static void judges_each_pair(const slipwattle_table *t) {
+    static const uint32_t current[SLIPWATTLE_REGISTERS] = {0};
+    uint8_t block[42 + 71];
+    size_t j, k;
+    for (j = 0; j < 32; j++) {
+        for (k = 0; k < SLIPWATTLE_REGISTERS; k++) {
+            write_with_pair(block, j, k);
+            CHECK(slipwattle_register_values(t, session(1), bridge(0), block, sizeof block, NULL, 0, current, 8).number == refusal_of_pair(j, k));
+            block[45] = 2;
+            CHECK(slipwattle_register_values(t, session(1), bridge(0), block, sizeof block, NULL, 0, current, 8).number == 9);
+        }
+    }
+}
+
+/* Refusals 2, 11 and 10 come before 8. Bridge 1 holds nothing. */
+static void judges_masks_last(const slipwattle_table *t) {
+    static const uint32_t current[SLIPWATTLE_REGISTERS] = {0};
+    uint8_t settings[71];
+    write_pairs(settings, 0xFFF0, 6);
+    CHECK(slipwattle_register_values(t, session(2), bridge(0), settings, 71, NULL, 0, current, 7).number == 2);
+    CHECK(slipwattle_register_values(t, session(2), bridge(1), settings, 71, NULL, 0, current, 7).number == 11);
+    CHECK(slipwattle_register_values(t, session(1), bridge(0), settings, 71, NULL, 0, current, 7).number == 10);
+    CHECK(slipwattle_register_values(t, session(1), bridge(0), settings, 71, NULL, 0, current, 8).number == 8);
+}
+
+/* Register k by a pair of its own, where the other registers are kept; bridge 0 holds no AER. */
+static bool computes(const slipwattle_table *t, size_t k, slipwattle_masks pair, uint32_t value, uint32_t expected) {
+    uint32_t current[SLIPWATTLE_REGISTERS] = {1, 2, 3, 4, 5, 6, 7, 8};
+    uint8_t settings[71];
+    slipwattle_values v;
+    write_pairs(settings, 0xFFFF, 0);
+    write_pair(settings, k, pair.and_mask, pair.or_mask);
+    current[k] = value;
+    v = slipwattle_register_values(t, session(1), bridge(0), settings, 71, NULL, 0, current, SLIPWATTLE_REGISTERS);
+    current[k] = expected;
+    return v.number == 0 && memcmp(v.values, current, sizeof current) == 0;
+}
+
+static void computes_by_each_pair(const slipwattle_table *t) {
+    static const uint32_t lines[17][5] = {
+        /* AND, OR, current, new, new in Device Control: kept, cleared, set, all three */
+        {0xFFFF, 0, 0x2810, 0x2810, 0x2810}, {0, 0, 0x2810, 0, 0x2000}, {0xFFFF, 0xFFFF, 0x2810, 0xFFFF, 0xAF1F}, {0xFF0F, 0x0F00, 0x1234, 0x1F04, 0x1F24},
+        /* bit 0, bit 15, and the starred value of document 01 */
+        {0xFFFF, 1, 0x2810, 0x2811, 0x2811}, {1, 1, 0x2810, 1, 0x2001}, {1, 0, 0xFFFF, 1, 0x70E1}, {0xFFFE, 0, 0xFFFF, 0xFFFE, 0xFFFE},
+        {0x8000, 0x8000, 0x7FFF, 0x8000, 0xF0E0}, {0x7FFF, 0, 0xFFFF, 0x7FFF, 0x7FFF}, {0xFFF6, 6, 0x2110, 0x2116, 0x2116},
+        /* not in Device Control and Link Control: bit 31, and 32 bits */
+        {0xFFFFFFFFu, 0x80000000u, 0x2810, 0x80002810u, 0}, {0x7FFFFFFF, 0, 0x80002810u, 0x2810, 0}, {0x80000000u, 0x80000000u, 0x2810, 0x80000000u, 0},
+        {0x80000001u, 1, 0xFFFFFFFEu, 0x80000001u, 0}, {0xFF0000FFu, 0x0F0000F0u, 0x12345678u, 0x1F0000F8u, 0}, {0xFFFFFFF6u, 6, 0x2110, 0x2116, 0},
+    };
+    size_t j, k;
+    for (j = 0; j < 17; j++) {
+        for (k = 0; k < SLIPWATTLE_REGISTERS; k++) {
+            if (j < 11 || (k != 4 && k != 5)) {
+                CHECK(computes(t, k, masks(lines[j][0], lines[j][1]), lines[j][2], lines[j][k == 4 ? 4 : 3]));
+            }
+        }
+    }
+}
+
 static void has_a_text_for_each_number(void) {
     const char *none = slipwattle_refusal_text(16);
     int n, other;
@@ -943,6 +1085,26 @@ static void has_a_text_for_each_number(void) {
     CHECK(strcmp(slipwattle_refusal_text(255), none) == 0);
     CHECK(strcmp(slipwattle_refusal_text(256), none) == 0);
     CHECK(strcmp(slipwattle_refusal_text(-1), none) == 0);
+}
+
+/* The two searches and the writer. */
+static void takes_no_table(void) {
+    finds_records();
+    finds_records_in_4096_bytes();
+    writes_each_choice_of_types();
+    finds_what_was_written();
+    writes_the_example();
+    any_flag_but_0_counts();
+    writes_into_no_buffer();
+    written_values_have_limits();
+    other_values_have_none();
+    searches_and_writes_each_pair();
+    judges_each_byte_of_an_image();
+    images_lie_inside_the_rom();
+    compares_what_is_asked_whole();
+    checks_the_chain_before_it_chooses();
+    ends_with_the_last_image();
+    finds_images_in_16_mib();
 }
 
 int main(void) {
@@ -963,22 +1125,13 @@ int main(void) {
     places_have_limits(&s.table);
     buses_have_limits();
     places_are_refused_in_order(&s.table);
-    finds_records();
-    finds_records_in_4096_bytes();
-    writes_each_choice_of_types();
-    finds_what_was_written();
-    writes_the_example();
-    any_flag_but_0_counts();
-    writes_into_no_buffer();
-    written_values_have_limits();
-    other_values_have_none();
-    judges_each_byte_of_an_image();
-    images_lie_inside_the_rom();
-    compares_what_is_asked_whole();
-    checks_the_chain_before_it_chooses();
-    ends_with_the_last_image();
-    finds_images_in_16_mib();
+    takes_no_table();
+    /* With AER held, and then without. */
+    judges_each_pair(&s.table);
     computes_register_values(&s.table);
+    judges_each_pair(&s.table);
+    judges_masks_last(&s.table);
+    computes_by_each_pair(&s.table);
     keeps_payload_sizes(&s.table);
     has_a_text_for_each_number();
     CHECK(slipwattle_reset(&s.table, session(1), bridge(0)) == 0);

@@ -15,7 +15,7 @@ pub const FULL_RUN: u64 = 200_000;
 pub const LEAST: u64 = 1_000;
 
 /// What is counted beside the numbers.
-const ANSWERS: [&str; 21] = [
+const ANSWERS: [&str; 26] = [
     "_OSC status 0x00",
     "_OSC status 0x02",
     "_OSC status 0x04",
@@ -37,6 +37,11 @@ const ANSWERS: [&str; 21] = [
     "an absent value out of range",
     "14 with too short a buffer",
     "a buffer one byte too short",
+    "8 by a senseless pair, search",
+    "8 by a senseless pair, values",
+    "14 by a senseless pair",
+    "an absent senseless pair",
+    "senseless in another revision",
 ];
 const AER: u32 = 1 << 3;
 
@@ -56,8 +61,30 @@ impl Counts {
         match (agreed.given.number, agreed.call) {
             (0, _) => self.note_answer(agreed),
             (12, Call::FindImage(call)) => self.answers[15] += u64::from(matches(call) > 0),
-            (14, Call::WriteRecords(call)) => self.answers[19] += u64::from(missing(call) > 0),
+            (14, Call::WriteRecords(call)) => {
+                self.answers[19] += u64::from(missing(call) > 0);
+                self.answers[23] += u64::from(call.settings.is_senseless_alone());
+            }
             (15, Call::WriteRecords(call)) => self.answers[20] += u64::from(missing(call) == 1),
+            _ => {}
+        }
+        self.note_senseless(agreed);
+    }
+
+    /// Blocks that one senseless pair alone makes unsound, and sound ones with a senseless pair that is skipped.
+    fn note_senseless(&mut self, agreed: &Agreed) {
+        let (slot, bridge_block, refused) = match agreed.call {
+            Call::FindRecord(call) => (&call.slot, &call.bridge_block, 21),
+            Call::RegisterValues(call) => (&call.slot, &call.bridge_block, 22),
+            _ => return,
+        };
+        let block = match slot.lent() {
+            [] => bridge_block.lent(),
+            slot => slot,
+        };
+        match agreed.given.number {
+            8 => self.answers[refused] += u64::from(blocks::is_senseless_alone(block)),
+            0 | 9 => self.answers[25] += u64::from(blocks::is_senseless_elsewhere(block)),
             _ => {}
         }
     }
@@ -83,6 +110,7 @@ impl Counts {
                 self.answers[16] += u64::from(settings.types().count() == TYPES);
                 self.answers[17] += u64::from(length < call.buffer.lent().len());
                 self.answers[18] += u64::from(!settings.is_within());
+                self.answers[24] += u64::from(settings.senseless_pairs() > 0);
             }
             _ => {}
         }

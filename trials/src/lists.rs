@@ -82,7 +82,7 @@ impl Plan {
 
     fn next_call(&mut self, random: &mut Random) -> Call {
         let (session, bridge) = self.names(random);
-        match random.below(45) {
+        match random.below(46) {
             0..12 => requests::any_call(random, session, bridge).into(),
             12..14 => Reset { session, bridge }.into(),
             14..16 => Report { session, bridge }.into(),
@@ -90,7 +90,7 @@ impl Plan {
             20..23 => self.locate(random, session),
             23..26 => find_record(random),
             26..29 => roms::any_search(random).into(),
-            29..32 => settings::any_write(random).into(),
+            29..33 => settings::any_write(random).into(),
             _ => register_values(random, session, bridge),
         }
     }

@@ -1,4 +1,4 @@
-//! Setting records as the writer takes them: in range, at the edge of a range and beyond, each present or absent.
+//! Setting records as the writer takes them: in range, at the edge of a range and beyond, with senseless masks, each present or absent.
 
 use std::ops::Range;
 
@@ -10,7 +10,9 @@ pub const TYPES: usize = 3;
 /// The numbers after the revision, of all types.
 pub const VALUES: usize = 23;
 /// Which of them each type has: C has those of type 2 first.
-pub const OF_TYPE: [Range<usize>; TYPES] = [16..20, 20..VALUES, 0..16];
+pub const OF_TYPE: [Range<usize>; TYPES] = [16..20, 20..VALUES, MASKS];
+/// The values of type 2.
+pub const MASKS: Range<usize> = 0..16;
 /// Bytes of a field before its numbers: tag, length, revision.
 const BEFORE: usize = 7;
 /// Bytes of all three records.
@@ -72,6 +74,28 @@ impl Settings {
         values.all(|(value, limit)| *value <= limit)
     }
 
+    /// Whether one senseless pair is all that is wrong with the present records.
+    pub fn is_senseless_alone(&self) -> bool {
+        let mut mended = *self;
+        blocks::mend(&mut mended.values[MASKS]);
+        self.senseless_pairs() == 1 && self.is_present(2) && mended.as_read().is_within()
+    }
+
+    /// How many pairs are senseless, be their record present or absent.
+    pub fn senseless_pairs(&self) -> usize {
+        blocks::senseless_pairs(&self.values[MASKS])
+    }
+
+    /// Sets a value. With a mask goes the other of its pair, as far as it must for the pair to have a meaning.
+    pub fn set(&mut self, index: usize, value: u32) {
+        for (record_type, places) in OF_TYPE.into_iter().enumerate() {
+            if places.contains(&index) {
+                let numbers = &mut self.values[places.clone()];
+                blocks::set_number(record_type, numbers, index - places.start, value);
+            }
+        }
+    }
+
     /// What reading gives of these records: 1 for each that is present, and no values of those that are absent.
     pub fn as_read(&self) -> Settings {
         let mut read = Settings::default();
@@ -118,18 +142,21 @@ pub fn limited() -> impl Iterator<Item = usize> {
     (0..VALUES).filter(|index| LIMITS[*index] != u32::MAX)
 }
 
-/// Values within their limits.
+/// Values within their limits, and masks that have a meaning.
 pub fn values_within(random: &mut Random) -> [u32; VALUES] {
-    LIMITS.map(|limit| blocks::number_within(random, limit))
+    let mut values = LIMITS.map(|limit| blocks::number_within(random, limit));
+    blocks::give_meaning(random, &mut values[MASKS]);
+    values
 }
 
-/// A call of the writer. Two in five are done; of the others some have a value too large, some a buffer too short, and some both.
+/// A call of the writer. Two in five are done; of the others some have a value too large or a senseless pair, some a buffer too short, and
+/// some both.
 pub fn any_write(random: &mut Random) -> WriteRecords {
     let mut settings = Settings {
         values: values_within(random),
         flags: [(); TYPES].map(|()| any_flag(random)),
     };
-    if random.one_in(2) {
+    if random.below(5) < 3 {
         spoil(random, &mut settings);
     }
     let length = near(random, settings.bytes());
@@ -144,19 +171,27 @@ fn any_flag(random: &mut Random) -> u8 {
     random.pick(&[0, 0, 0, 1, 1, 1, 2, 0x80, 0xFF, any])
 }
 
-/// Puts a value or two past the limit; or anything into all values of a type, whose record then is absent, as a rule.
+/// Puts a value or two past the limit; makes a pair senseless, its record present or absent; or puts anything into all values of a type,
+/// whose record then is absent, as a rule.
 fn spoil(random: &mut Random, settings: &mut Settings) {
-    let limited: Vec<usize> = limited().collect();
-    if random.one_in(5) {
-        let record_type = random.below(TYPES);
-        let values = &mut settings.values[OF_TYPE[record_type].clone()];
-        values.iter_mut().for_each(|value| *value = random.word());
-        settings.flags[record_type] &= random.pick(&[0, 0, 0xFF]);
-        return;
-    }
-    for _ in 0..random.pick(&[1, 1, 1, 2]) {
-        let index = random.pick(&limited);
-        settings.values[index] = beyond(random, LIMITS[index]);
+    match random.below(8) {
+        0 | 1 => {
+            let record_type = random.below(TYPES);
+            let values = &mut settings.values[OF_TYPE[record_type].clone()];
+            values.iter_mut().for_each(|value| *value = random.word());
+            settings.flags[record_type] &= random.pick(&[0, 0, 0xFF]);
+        }
+        2..5 => {
+            blocks::make_senseless(random, &mut settings.values[MASKS]);
+            settings.flags[2] = random.pick(&[0, 1]);
+        }
+        _ => {
+            let limited: Vec<usize> = limited().collect();
+            for _ in 0..random.pick(&[1, 1, 1, 2]) {
+                let index = random.pick(&limited);
+                settings.set(index, beyond(random, LIMITS[index]));
+            }
+        }
     }
 }
 

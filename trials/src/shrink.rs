@@ -3,12 +3,12 @@
 use std::iter;
 use std::rc::Rc;
 
-use crate::blocks;
+use crate::blocks::{self, REGISTERS};
 use crate::call::{Call, Start, WriteRecords};
 use crate::mcfg;
 use crate::part::Part;
 use crate::roms::{self, HEADER, Image, LAST, UNIT};
-use crate::settings::TYPES;
+use crate::settings::{MASKS, TYPES};
 
 /// Smaller is simpler: calls, then lent numbers, then numbers that are not 0, then the sum of them.
 type Size = (usize, usize, usize, u128);
@@ -101,12 +101,12 @@ fn without_row(list: &[Call], row: usize) -> Vec<Call> {
     changed
 }
 
-/// Calls like this one with one argument simpler, starts with one entry less, and writes of other records. Each is made when it is asked
-/// for: a long buffer has many.
+/// Calls like this one with one argument simpler, starts with one entry less, and writes of other records or of fewer masks. Each is made
+/// when it is asked for: a long buffer has many.
 fn simpler_calls(call: &Call) -> impl Iterator<Item = Call> {
     let whole: Box<dyn Iterator<Item = Call>> = match call {
         Call::Start(start) => Box::new(simpler_tables(start)),
-        Call::WriteRecords(write) => Box::new(fewer_records(write)),
+        Call::WriteRecords(write) => Box::new(fewer_records(write).chain(fewer_masks(write))),
         _ => Box::new(iter::empty()),
     };
     let parts = 0..call.clone().parts().len();
@@ -165,6 +165,19 @@ fn without_record(write: &WriteRecords, record_type: usize, instead: Option<usiz
     changed.into()
 }
 
+/// The writer's call with zeros for the masks of one register. By itself an AND mask goes no further than its OR mask.
+fn fewer_masks(write: &WriteRecords) -> impl Iterator<Item = Call> {
+    (0..REGISTERS).map(|register| {
+        let mut changed = write.clone();
+        without_masks(&mut changed.settings.values[MASKS], register);
+        changed.into()
+    })
+}
+
+fn without_masks(masks: &mut [u32], register: usize) {
+    masks[2 * register..][..2].fill(0);
+}
+
 /// Smaller numbers to try instead of this one: 0, then it less a half, a quarter and so on down to it less 1, then it without one of its
 /// bits, the highest first.
 fn smaller(number: u64) -> impl Iterator<Item = u64> {
@@ -212,11 +225,17 @@ fn smaller_numbers(numbers: Rc<[u64]>) -> impl Iterator<Item = Vec<u64>> {
     })
 }
 
-/// Record blocks with one field less.
-fn fewer_fields(block: Rc<[u64]>) -> impl Iterator<Item = Vec<u64>> {
+/// Record blocks with one field less, and with zeros for the masks of one register.
+fn simpler_blocks(block: Rc<[u64]>) -> impl Iterator<Item = Vec<u64>> {
     let bytes: Vec<u8> = block.iter().map(|number| *number as u8).collect();
     let fields = blocks::fields(&bytes).into_iter();
-    fields.map(move |field| [&block[..field.start], &block[field.end..]].concat())
+    let fewer = fields.map(move |field| [&block[..field.start], &block[field.end..]].concat());
+    let plainer = (0..REGISTERS).map(move |register| {
+        let mut changed = bytes.clone();
+        blocks::each_express(&mut changed, |_, masks| without_masks(masks, register));
+        changed.into_iter().map(u64::from).collect()
+    });
+    fewer.chain(plainer)
 }
 
 /// ROMs with one image less, with one shorter, or with one made plain.
@@ -283,7 +302,7 @@ fn simpler_part(call: &Call, index: usize) -> impl Iterator<Item = Call> {
     let (name, part) = &original.parts()[index];
     let numbers: Rc<[u64]> = part.numbers().into();
     let fewer: Box<dyn Iterator<Item = Vec<u64>>> = match *name {
-        "slot" | "bridge_block" => Box::new(fewer_fields(numbers.clone())),
+        "slot" | "bridge_block" => Box::new(simpler_blocks(numbers.clone())),
         "rom" => Box::new(simpler_roms(numbers.clone())),
         _ => Box::new(iter::empty()),
     };

@@ -1,5 +1,5 @@
-// The bench sheet of document 01, line by line in its order, through the calls; its fourth line as document 02, b, has it, its numbers of rows as e has them, and at the end as many
-// entries and the register value that f works out. P permitted, H held, R requested, G granted.
+// The bench sheet of document 01, line by line in its order, through the calls; its fourth line as document 02, b, has it, its numbers of rows as e has them, its AND/OR line as a
+// fact of the formula, beside the number that h gives, and at the end as many entries and the register value that f works out. P permitted, H held, R requested, G granted.
 use print::bytes;
 use print::decimal;
 use print::end;
@@ -138,7 +138,7 @@ fn entries(count: usize)
     sound(BASE, 255, count);
 }
 
-// Register k of a card whose registers all have this value, by the record that fixtures::settings makes, where bits 0 and 4 are held and AER is not.
+// The formula alone; and register k of a card whose registers all have this value, by the record that fixtures::settings makes, where bits 0 and 4 are held and AER is not.
 fn register(words: &[u8], k: usize, value: u32, and: u32, or: u32)
     requires { ⌜ k < 8 ⌝ }
 {
@@ -154,13 +154,15 @@ fn register(words: &[u8], k: usize, value: u32, and: u32, or: u32)
         &block,
         &current,
     );
-    let new = v.values;
+    let values = v.values;
+    let new = values[k];
     text(words);
     bits(b"current ", value, 1);
     bits(b", AND ", and, 1);
     bits(b", OR ", or, 1);
-    decimal(b": number ", v.number as u64);
-    bits(b", new ", new[k], 1);
+    bits(b": formula ", hpx::and_or(value, and, or), 1);
+    decimal(b", number ", v.number as u64);
+    bits(b", new ", new, 1);
     end();
 }
 

@@ -6,7 +6,7 @@ ghost use mathlib.Core.Path.{_≡_};
 ghost use mathlib.Core.Bool.{false};
 ghost use Prim.Native.Nat.{_+_, _<_, _≤_};
 ghost use lib.ListN.{length, getD};
-ghost use Rattle.rules.specs.Records.{fieldAt, deciding, recordIn, recordRefusals, findRecord, decidingAt, registersBad, sizesKept, newValue, newValues};
+ghost use Rattle.rules.specs.Records.{fieldAt, deciding, recordIn, recordRefusals, findRecord, decidingAt, registersBad, andOr, sizesKept, newValue, newValues};
 ghost use Rattle.rules.specs.Parts.{part, partAt};
 ghost use Rattle.rules.specs.Refusals.{firstOf};
 ghost use Rattle.hpx.specs.Answers.{valuesAt};
@@ -62,6 +62,13 @@ pub fn registers_bad(current: &[u32]) -> bool
     (65535 < current[4]) | (65535 < current[5])
 }
 
+// The current value AND a mask, OR a mask.
+pub fn and_or(current: u32, and: u32, or: u32) -> u32
+    ensures { λ r. ⌜ r ≡ andOr current and or ⌝ }
+{
+    (current & and) | or
+}
+
 // Device Control: bits 5 to 7 and 12 to 14 keep their current value, the rest are those computed.
 fn sizes_kept(current: u32, computed: u32) -> u32
     ensures { λ r. ⌜ r ≡ sizesKept current computed ⌝ }
@@ -80,7 +87,7 @@ fn register(b: &[u8], start: usize, current: &[u32], k: usize, aer: bool) -> u32
     }
     let and = words::read32(b, 3 + 4 * (1 + 2 * k) + start);
     let or = words::read32(b, 3 + 4 * (2 + 2 * k) + start);
-    let computed = (value & and) | or;
+    let computed = and_or(value, and, or);
     if k == 4 {
         return sizes_kept(value, computed);
     }

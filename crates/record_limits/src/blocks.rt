@@ -1,5 +1,5 @@
 // Record blocks, and the record search in them.
-ghost use Prim.Native.Nat.{_≤_};
+ghost use Prim.Native.Nat.{_<_, _≤_};
 ghost use lib.ListN.{length as List·length};
 
 // A record of each type, 23, 19 and 71 bytes, with every value at its limit.
@@ -29,6 +29,35 @@ fn dword(at: usize, value: u32, record_type: u32)
     let mut b = LIMITS;
     words::write32(&mut b, at, value);
     search(b"", &b, record_type);
+}
+
+// LIMITS with these masks of register k, from 0, in its type 2 record, of this revision.
+fn with_masks(k: usize, and: u32, or: u32, revision: u32) -> [u8; 113]
+    requires { ⌜ k < 8 ⌝ }
+{
+    let mut b = LIMITS;
+    words::write32(&mut b, 45, revision);
+    words::write32(&mut b, 49 + 8 * k, and);
+    words::write32(&mut b, 53 + 8 * k, or);
+    b
+}
+
+fn masks(k: usize, and: u32, or: u32, revision: u32, record_type: u32)
+    requires { ⌜ k < 8 ⌝ }
+{
+    print::decimals(b"masks", &[k as u64]);
+    print::hexes(b"", &[and as u64, or as u64]);
+    print::decimals(b"", &[revision as u64, record_type as u64]);
+    search(b"", &with_masks(k, and, or, revision), record_type);
+}
+
+// Each register in turn; the type 2 record is looked for.
+fn each(and: u32, or: u32, revision: u32) {
+    let mut k = 0;
+    while k < 8 {
+        masks(k, and, or, revision, 2);
+        k += 1;
+    }
 }
 
 // Two fields with this tag and length, of these revisions, and zeros.
@@ -174,10 +203,64 @@ fn type_1() {
 
 // "type 2 eight AND/OR pairs, those of Device Control and Link Control at most 65535"
 fn type_2() {
-    dword(81, 65536, 0);
-    dword(85, 65536, 0);
-    dword(89, 65536, 0);
-    dword(93, 65536, 0);
+    print::text(
+        b"(masks of the type 2 record of that block: register, from 0, Device Control 4, Link Control 5; AND mask, OR mask, revision; type looked for)\n",
+    );
+    masks(4, 0xffff, 0xffff, 1, 0);
+    masks(4, 0x1_0000, 0, 1, 0);
+    masks(4, 0xffff, 0x1_0000, 1, 0);
+    masks(4, 0x1_0000, 0x1_0000, 1, 0);
+    masks(5, 0xffff, 0xffff, 1, 0);
+    masks(5, 0x1_0000, 0, 1, 0);
+    masks(5, 0xffff, 0x1_0000, 1, 0);
+    masks(5, 0x1_0000, 0x1_0000, 1, 0);
+    masks(3, 0x1_0000, 0x1_0000, 1, 0);
+    masks(6, 0x1_0000, 0x1_0000, 1, 0);
+}
+
+// Document 02, h: "a bit clear in the AND mask and set in the OR mask". Bits 1 to 3 are set, 4 to 7 kept, the rest cleared; bit 0 is set, then senseless.
+fn pairs() {
+    each(0xff, 0xf, 1);
+    each(0xfe, 0xf, 1);
+    each(0xfe, 0xf, 2);
+}
+
+// "such a type 2 record makes the block unsound", whatever type is looked for; of another revision it is skipped.
+fn types_beside() {
+    masks(0, 0xfe, 0xf, 1, 0);
+    masks(7, 0xfe, 0xf, 1, 0);
+    masks(7, 0xfe, 0xf, 1, 1);
+    masks(7, 0xfe, 0xf, 1, 3);
+    masks(7, 0xfe, 0xf, 2, 0);
+    masks(7, 0xfe, 0xf, 0, 1);
+    masks(7, 0xfe, 0xf, 257, 1);
+    masks(7, 0xfe, 0xf, 2, 3);
+}
+
+// One bit, the lowest and the highest: cleared, kept, set, senseless.
+fn one_bit() {
+    masks(0, 0xffff_fffe, 0, 1, 2);
+    masks(0, 0xffff_ffff, 0, 1, 2);
+    masks(0, 0xffff_ffff, 1, 1, 2);
+    masks(0, 0xffff_fffe, 1, 1, 2);
+    masks(7, 0x7fff_ffff, 0, 1, 2);
+    masks(7, 0xffff_ffff, 0, 1, 2);
+    masks(7, 0xffff_ffff, 0x8000_0000, 1, 2);
+    masks(7, 0x7fff_ffff, 0x8000_0000, 1, 2);
+    masks(4, 0x7fff, 0x8000, 1, 2);
+    masks(5, 0x7fff, 0x8000, 1, 2);
+}
+
+// An AND mask of 0, single and alternate bits, and the pair of the bench sheet.
+fn many_bits() {
+    masks(3, 0, 0, 1, 2);
+    masks(3, 0, 1, 1, 2);
+    masks(3, 0, 0xffff_ffff, 1, 2);
+    masks(3, 2, 1, 1, 2);
+    masks(3, 0x5555_5555, 0x5555_5555, 1, 2);
+    masks(3, 0x5555_5555, 0xaaaa_aaaa, 1, 2);
+    masks(0, 0xffff_fff0, 0x6, 1, 2);
+    masks(0, 0xffff_fff6, 0x6, 1, 2);
 }
 
 // "A length running past the end, one or two bytes left over", or a block above 4096 bytes (document 02, e) "is unsound"
@@ -220,6 +303,16 @@ fn deciding() {
         &LIMITS,
     );
     blocks(b"both empty", b"", b"");
+    blocks(
+        b"slot's has a senseless pair, bridge's has the record",
+        &with_masks(7, 0xfe, 0xf, 1),
+        &LIMITS,
+    );
+    blocks(
+        b"slot's has the record, bridge's has a senseless pair",
+        &LIMITS,
+        &with_masks(7, 0xfe, 0xf, 1),
+    );
 }
 
 pub fn lines() {
@@ -231,6 +324,10 @@ pub fn lines() {
     type_0();
     type_1();
     type_2();
+    pairs();
+    types_beside();
+    one_bit();
+    many_bits();
     ends();
     deciding();
 }

@@ -1,5 +1,5 @@
 // Register values. Session 1 calls on bridge 0, which permits every bit. Register k, from 0, has the current value 0x80000fff + k x 0x1000; its AND mask is
-// 0xffffff00 + (k + 1) x 0x10, its OR mask 0x10000 + k + 1; of Device Control and Link Control, registers 4 and 5, the low halves.
+// 0xffffff00 + (k + 1) x 0x11, its OR mask 0x10000 + k + 1; of Device Control and Link Control, registers 4 and 5, the low halves.
 use crate::blocks::LIMITS;
 use rules::BridgeNumber;
 use rules::SessionNumber;
@@ -9,14 +9,23 @@ ghost use lib.ListN.{length as List·length};
 
 fn block() -> [u8; fixtures::SETTINGS] {
     let mut b = fixtures::settings(0, 0);
-    fixtures::put_pair(&mut b, 0, 0xffff_ff10, 0x1_0001);
-    fixtures::put_pair(&mut b, 1, 0xffff_ff20, 0x1_0002);
-    fixtures::put_pair(&mut b, 2, 0xffff_ff30, 0x1_0003);
-    fixtures::put_pair(&mut b, 3, 0xffff_ff40, 0x1_0004);
-    fixtures::put_pair(&mut b, 4, 0xff50, 0x5);
-    fixtures::put_pair(&mut b, 5, 0xff60, 0x6);
-    fixtures::put_pair(&mut b, 6, 0xffff_ff70, 0x1_0007);
-    fixtures::put_pair(&mut b, 7, 0xffff_ff80, 0x1_0008);
+    fixtures::put_pair(&mut b, 0, 0xffff_ff11, 0x1_0001);
+    fixtures::put_pair(&mut b, 1, 0xffff_ff22, 0x1_0002);
+    fixtures::put_pair(&mut b, 2, 0xffff_ff33, 0x1_0003);
+    fixtures::put_pair(&mut b, 3, 0xffff_ff44, 0x1_0004);
+    fixtures::put_pair(&mut b, 4, 0xff55, 0x5);
+    fixtures::put_pair(&mut b, 5, 0xff66, 0x6);
+    fixtures::put_pair(&mut b, 6, 0xffff_ff77, 0x1_0007);
+    fixtures::put_pair(&mut b, 7, 0xffff_ff88, 0x1_0008);
+    b
+}
+
+// The same but for register k, with bit 0 clear in its AND mask and set in its OR mask.
+fn senseless_block(k: usize) -> [u8; fixtures::SETTINGS]
+    requires { ⌜ k < 8 ⌝ }
+{
+    let mut b = block();
+    fixtures::put_pair(&mut b, k, 0xfe, 0xf);
     b
 }
 
@@ -95,6 +104,24 @@ fn register(k: usize, value: u32)
     came(asked(0x11, b"", &block(), &current(k, value), 8));
 }
 
+// Register k has a senseless pair; bridge 0 holds these bits.
+fn senseless(k: usize, control: u32)
+    requires { ⌜ k < 8 ⌝ }
+{
+    print::decimals(b"senseless", &[k as u64]);
+    print::hexes(b"", &[control as u64]);
+    came(asked(control, b"", &senseless_block(k), &current(8, 0), 8));
+}
+
+// Each register in turn.
+fn each_senseless(control: u32) {
+    let mut k = 0;
+    while k < 8 {
+        senseless(k, control);
+        k += 1;
+    }
+}
+
 // These blocks.
 fn blocks<'a>(words: &[u8], slot: &'a [u8], block: &'a [u8]) {
     print::text(words);
@@ -110,7 +137,7 @@ fn every(control: u32, value: u32, and: u32, or: u32) {
     came(asked(control, b"", &fixtures::settings(and, or), &[value; 8], 8));
 }
 
-// "Register values 1, 2, 11, 10, 8, 9." A block of 1 byte is not sound, the one of 3 has a field that is skipped.
+// "Register values 1, 2, 11, 10, 8, 9." A block of 1 byte is not sound, the one of 3 has a field that is skipped, the one of 71 a senseless pair.
 fn orders() {
     print::text(b"(values: session, bridge, number of registers, bytes of the block)\n");
     by(1, 0, &[0; 8], b"\x03\x00\x00");
@@ -124,6 +151,21 @@ fn orders() {
     by(2, 0, &[0; 7], b"\x03");
     by(0, 3, &[0; 7], b"\x03");
     by(1, 64, &[0; 7], b"\x03");
+}
+
+fn by_senseless(session: u8, bridge: u8, current: &[u32]) {
+    by(session, bridge, current, &senseless_block(7));
+}
+
+fn senseless_orders() {
+    by_senseless(1, 0, &[0; 8]);
+    by_senseless(1, 0, &[0; 7]);
+    by_senseless(1, 0, &[0; 9]);
+    by_senseless(1, 2, &[0; 8]);
+    by_senseless(2, 1, &[0; 7]);
+    by_senseless(1, 1, &[0; 8]);
+    by_senseless(2, 0, &[0; 8]);
+    by_senseless(1, 3, &[0; 8]);
 }
 
 // "the bridge does not hold control bit 0"; "for the six error registers too, unless AER (bit 3) is held, when they stay"
@@ -158,6 +200,16 @@ fn deciding() {
         &block(),
     );
     blocks(b"record behind others", b"", &LIMITS);
+    blocks(
+        b"slot's has a senseless pair, bridge's has the record",
+        &senseless_block(7),
+        &block(),
+    );
+    blocks(
+        b"slot's has the record, bridge's has a senseless pair",
+        &block(),
+        &senseless_block(7),
+    );
 }
 
 // Document 02, f: in Device Control "bits 5 to 7 and 12 to 14 keep their current value whatever the record says"
@@ -172,13 +224,37 @@ fn sizes() {
     every(0x11, 0x2810, 0xffff, 0);
 }
 
+// Document 02, h: bits are set, kept and cleared; the two masks exchanged; the pair of the bench sheet, and with OR's bits in AND; an AND mask of 0
+fn cases() {
+    every(0x11, 0x5a5a, 0xfff, 0xf00);
+    every(0x19, 0x5a5a, 0xfff, 0xf00);
+    every(0x11, 0xa5a5, 0xfff0, 0xf0);
+    every(0x11, 0x5a5a, 0xf00, 0xfff);
+    every(0x19, 0x5a5a, 0xf00, 0xfff);
+    every(0x11, 0x2110, 0xffff_fff0, 0x6);
+    every(0x11, 0x2110, 0xffff_fff6, 0x6);
+    every(0x11, 0xffff, 0, 0x1);
+}
+
+// A pair counts where it is not used too: those of the error registers, with AER held. 11 comes first.
+fn senseless_pairs() {
+    each_senseless(0x11);
+    each_senseless(0x19);
+    senseless(7, 0);
+    senseless(7, 0x1e);
+}
+
 pub fn lines() {
     print::text(b"Register values\n");
     orders();
+    senseless_orders();
     print::text(b"(held: control bits; registers: their number; register: which, what)\n");
     control();
     lists();
     deciding();
     print::text(b"(every: control bits, every register's value, its AND mask, its OR mask)\n");
     sizes();
+    cases();
+    print::text(b"(senseless: register whose pair it is; control bits)\n");
+    senseless_pairs();
 }

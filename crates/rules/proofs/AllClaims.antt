@@ -8,6 +8,7 @@ use Rattle.rules.proofs.Claims.{refusals-exactly, refused-changes-nothi
 use Rattle.rules.proofs.Buffers.{buffers-keep-length}
 use Rattle.rules.proofs.Records.{record-part}
 use Rattle.rules.proofs.Rom.{image-part, sound-chain}
+use Rattle.rules.proofs.Pairs.{three-cases, sound-pairs}
 use Rattle.rules.proofs.Writing.{written-sound, written-read-back, read-written-again}
 
 pub all-claims : AllClaims
@@ -20,6 +21,8 @@ all-claims = record {
   record-part = record-part;
   image-part = image-part;
   sound-chain = sound-chain;
+  three-cases = three-cases;
+  sound-pairs = sound-pairs;
   written-sound = written-sound;
   written-read-back = written-read-back;
   read-written-again = read-written-again;

@@ -8,4 +8,4 @@ use Rattle.rules.specs.BenchSheet.{BenchSheet}
 
 pub bench-sheet : BenchSheet
 unfolding maxBlock bit granted framingBad recognised oscAnswer oscAfter fieldsOf blockSound recordIn sizesKept
-bench-sheet = (refl, (refl, (refl, (refl, (refl, (refl, (refl, (refl, (refl, (refl, (refl, (refl, (refl, tt)))))))))))))
+bench-sheet = (refl, (refl, (refl, (refl, (refl, (refl, (refl, (refl, (refl, (refl, (refl, (refl, (refl, (refl, tt))))))))))))))

@@ -21,6 +21,7 @@ pub mod Rom
 pub mod Bytes
 pub mod Rising
 pub mod Whole
+pub mod Pairs
 pub mod Laying
 pub mod Again
 pub mod Writing

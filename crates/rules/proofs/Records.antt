@@ -20,7 +20,7 @@ use Rattle.rules.proofs.Refusals.{clear}
 use Rattle.rules.proofs.Lists.{stands}
 use Rattle.rules.specs.declared.Field.{Field}
 
-noField : Field
+pub noField : Field
 noField = record { start = 0; tag = 0; size = 0 }
 
 -- the field stands in the block, and ends inside it
@@ -63,7 +63,28 @@ walk-in (suc n) l i r e = go (λ m c. walk-in n l (3 + fieldAt l i .size + i) m 
     go ih false true x z = add (fieldsFrom n l next) ih z (leb-true next (length l) x)
     go ih false false x z = absurd (Option·none-ne-some r z)
 
--- the record found among the fields
+-- the record chosen among fields: where it stands, that it is one, and of the asked type
+pub record Chosen (l : List ℕ) (type : ℕ) (r : List Field) (f : Field) : Type 0 where
+  pub at : ℕ
+  pub in-list : at < length r
+  pub is : getD r at noField ≡ f
+  pub is-record : isRecord l f ≡ true
+  pub tag-is : f .tag ≡ type
+
+pub chosen : (l : List ℕ) (type : ℕ) (r : List Field) (f : Field) → recordAmong l type (some r) ≡ some f → Chosen l type r f
+chosen l type r f e =
+    let s = stands noField test r (ap isNone e) in
+    let same : getD r (s .at) noField ≡ f = some-is (sym (s .is) ∙ e) in
+    let p = and-true (isRecord l f) (eqb (f .tag) type) (ap test (sym same) ∙ s .passes) in
+    record { at = s .at; in-list = s .in-list; is = same; is-record = p .0; tag-is = eqb-true (f .tag) type (p .1) }
+  where
+    test : Field → Bool
+    test h = isRecord l h && eqb (h .tag) type
+
+    some-is : {g h : Field} → some g ≡ some h → g ≡ h
+    some-is {g} {h} z = cc
+
+-- the record found in the block
 record Matches (l : List ℕ) (type : ℕ) (f : Field) : Type 0 where
   in-block : InBlock l f
   tag-is : f .tag ≡ type
@@ -73,18 +94,9 @@ among : (l : List ℕ) (type : ℕ) (o : Option (List Field)) → ((r : List Fie
     → (f : Field) → recordAmong l type o ≡ some f → Matches l type f
 among l type none a f e = absurd (Option·none-ne-some f e)
 among l type (some r) a f e =
-    let s = stands noField test r (ap isNone e) in
-    let g = getD r (s .at) noField in
-    let same : g ≡ f = some-is (sym (s .is) ∙ e) in
-    let p = and-true (isRecord l g) (eqb (g .tag) type) (s .passes) in
-    let q = and-true (leb (g .tag) 2) (eqb (value l g 0) 1) (p .0) in
-    subst (Matches l type) same (record { in-block = a r refl (s .at) (s .in-list); tag-is = eqb-true (g .tag) type (p .1); revision-is = eqb-true (value l g 0) 1 (q .1) })
-  where
-    test : Field → Bool
-    test h = isRecord l h && eqb (h .tag) type
-
-    some-is : {g h : Field} → some g ≡ some h → g ≡ h
-    some-is {g} {h} z = cc
+    let s = chosen l type r f e in
+    let q = and-true (leb (f .tag) 2) (eqb (value l f 0) 1) (s .is-record) in
+    record { in-block = subst (InBlock l) (s .is) (a r refl (s .at) (s .in-list)); tag-is = s .tag-is; revision-is = eqb-true (value l f 0) 1 (q .1) }
 
 record-matches : (l : List ℕ) (type : ℕ) (f : Field) → recordIn l type ≡ some f → Matches l type f
 unfolding recordIn fieldsOf

@@ -1,8 +1,10 @@
 -- What a test's connective says of its parts.
 -- Assumes nothing.
-use mathlib.Core.Path.{_≡_, refl, sym}
+use mathlib.Core.Path.{_≡_, refl, sym, _∙_}
 use mathlib.Core.Logic.{_⊎_, inl, inr}
 use mathlib.Core.Bool.{Bool, true, false, _&&_, _||_, true≢false}
+use mathlib.Core.List.{List, [], _∷_}
+use Rattle.rules.specs.Lists.{every}
 
 pub or-false : (a b : Bool) → (a || b) ≡ false → (a ≡ false) × (b ≡ false)
 or-false true b e = absurd (true≢false e)
@@ -47,13 +49,20 @@ pub fails : (q : Bool) → (q ≡ true → ⊥) → q ≡ false
 fails true n = absurd (n refl)
 fails false n = refl
 
--- tests joined from the left, as code does, are those of `every`
-pub three-joined : (a b c : Bool) → ((a && b) && c) ≡ (a && (b && (c && true)))
-three-joined false b c = refl
-three-joined true false c = refl
-three-joined true true false = refl
-three-joined true true true = refl
+and-on : (a : Bool) → (a && true) ≡ a
+and-on true = refl
+and-on false = refl
 
-pub four-joined : (a b c d : Bool) → (((a && b) && c) && d) ≡ (a && (b && (c && (d && true))))
-four-joined false b c d = refl
-four-joined true b c d = three-joined b c d
+and-assoc : (a b c : Bool) → ((a && b) && c) ≡ (a && (b && c))
+and-assoc true b c = refl
+and-assoc false b c = refl
+
+-- tests joined from the left, as code does
+abbrev pub joined : Bool → List Bool → Bool
+joined a [] = a
+joined a (b ∷ l) = joined (a && b) l
+
+-- they are those of `every`
+pub joined-every : (a : Bool) (l : List Bool) → joined a l ≡ every (λ q. q) (a ∷ l)
+joined-every a [] = sym (and-on a)
+joined-every a (b ∷ l) = joined-every (a && b) l ∙ and-assoc a b (every (λ q. q) l)

@@ -76,15 +76,19 @@ module _ (l : List ℕ) where
   all-same t [] w = refl
   all-same t (f ∷ r) w = ap₂ {B = Bool} (λ (x : Bool) y. x && y) (sound-same f (w .1)) (all-same (suc (f .tag)) r (w .2))
 
-  -- a sound field that is a record is whole
+  -- a sound field that is a record has the length of its type, and its values break no range
+  pub record-keeps : (f : Field) → isRecord l f ≡ true → fieldSound l f ≡ true → (eqb (f .size) (recordSize (f .tag)) ≡ true) × (inRanges (f .tag) (value l f) ≡ true)
+  record-keeps f e s =
+      let a = and-true (leb (f .tag) 2) (eqb (value l f 0) 1) e in
+      let b = rw (le-ltb 2 (f .tag) (leb-true (f .tag) 2 (a .0)), a .1) at s in
+      let c = and-true (leb 4 (f .size) && eqb (f .size % 4) 0) (eqb (f .size) (recordSize (f .tag)) && inRanges (f .tag) (value l f)) b in
+      and-true (eqb (f .size) (recordSize (f .tag))) (inRanges (f .tag) (value l f)) (c .1)
+
+  -- it is whole
   is-whole : (f : Field) → isRecord l f ≡ true → fieldSound l f ≡ true → Whole l f
   is-whole f e s =
       let a = and-true (leb (f .tag) 2) (eqb (value l f 0) 1) e in
-      let k = leb-true (f .tag) 2 (a .0) in
-      let b = rw (le-ltb 2 (f .tag) k, a .1) at s in
-      let c = and-true (leb 4 (f .size) && eqb (f .size % 4) 0) (eqb (f .size) (recordSize (f .tag)) && inRanges (f .tag) (value l f)) b in
-      let d = and-true (eqb (f .size) (recordSize (f .tag))) (inRanges (f .tag) (value l f)) (c .1) in
-      record { known = k; revision = eqb-true (value l f 0) 1 (a .1); long = eqb-true (f .size) (recordSize (f .tag)) (d .0) }
+      record { known = leb-true (f .tag) 2 (a .0); revision = eqb-true (value l f 0) 1 (a .1); long = eqb-true (f .size) (recordSize (f .tag)) (record-keeps f e s .0) }
 
   -- so are all fields of a sound block that holds only such records
   pub all-whole : (t : ℕ) (r : List Field) → every (λ f. leb t (f .tag)) r ≡ true → every (isRecord l) r ≡ true → pairwise (λ f g. ltb (f .tag) (g .tag)) r ≡ true

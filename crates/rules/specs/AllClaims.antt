@@ -1,5 +1,5 @@
 -- All claims, one field for each. Its one proof is `all-claims`; the public crate uses every field of it.
-use Rattle.rules.specs.Claims.{EveryAndPair, GrantedBits, RefusalsExactly, RefusedChangesNothing, BuffersKeepLength, RecordPart, ImagePart, SoundChain, WrittenSound, WrittenReadBack, ReadWrittenAgain, TablesSound, History, QueriesChangeNothing, HeldUntilReset, ThereAndBack, BackAndThere, OneAddress, Separation, Negotiation}
+use Rattle.rules.specs.Claims.{EveryAndPair, GrantedBits, RefusalsExactly, RefusedChangesNothing, BuffersKeepLength, RecordPart, ImagePart, SoundChain, ThreeCases, SoundPairs, WrittenSound, WrittenReadBack, ReadWrittenAgain, TablesSound, History, QueriesChangeNothing, HeldUntilReset, ThereAndBack, BackAndThere, OneAddress, Separation, Negotiation}
 use Rattle.rules.specs.BenchSheet.{BenchSheet}
 use Rattle.rules.specs.BenchRuns.{ExampleRuns}
 
@@ -13,6 +13,9 @@ pub record AllClaims : Type 1 where
   pub record-part : RecordPart
   pub image-part : ImagePart
   pub sound-chain : SoundChain
+  -- document 02, h
+  pub three-cases : ThreeCases
+  pub sound-pairs : SoundPairs
   -- document 02, g
   pub written-sound : WrittenSound
   pub written-read-back : WrittenReadBack

@@ -1,8 +1,8 @@
 -- Example runs: starts, a run of two sessions on one table, record searches, written records, images of a ROM, register values, grants and places.
 use Prim.Native.Nat.{ℕ, zero, suc, _-_, _/_, _%_}
-use mathlib.Core.Bool.{true, false}
+use mathlib.Core.Bool.{true, false, cond}
 use mathlib.Core.List.{List, [], _∷_, _++_}
-use lib.Dec.{leb}
+use lib.Dec.{eqb, leb}
 use lib.ListN.{take, drop, set, replicate}
 use Rattle.rules.specs.Limits.{maxRom}
 use Rattle.rules.specs.Place.{placeBad, busOutside}
@@ -12,7 +12,7 @@ use Rattle.rules.specs.Records.{findRecord}
 use Rattle.rules.specs.Rom.{findImage}
 use Rattle.rules.specs.Writer.{presentIn, writeRecords, bufferAfter, readSettings, placeAmong, onlyRising}
 use Rattle.rules.specs.Calls.{osc, reset, report, address, registerValues, Call, on, locate, nothing, reported, addressed, located, values, outcome, outcomes}
-use Rattle.rules.specs.BenchSheet.{Line, _gives_, AllHold, oscOn, registersOn, newRegisters}
+use Rattle.rules.specs.BenchSheet.{Line, _gives_, AllHold, oscOn, samePairs, registersOn, newRegisters}
 use Rattle.rules.specs.declared.Bridge.{Bridge}
 use Rattle.rules.specs.declared.BridgeNumber.{BridgeNumber}
 use Rattle.rules.specs.declared.BridgeRow.{BridgeRow}
@@ -131,14 +131,18 @@ takeAll = 0 ∷ 0 ∷ 0 ∷ 0 ∷ 0xFF ∷ 0 ∷ 0 ∷ 0 ∷ 0x3F ∷ 0 ∷ 0 �
 abbrev pub takeTwo : List ℕ
 takeTwo = 0 ∷ 0 ∷ 0 ∷ 0 ∷ 0 ∷ 0 ∷ 0 ∷ 0 ∷ 0x11 ∷ 0 ∷ 0 ∷ 0 ∷ []
 
--- the type 2 record of document 002, table 6-9
+-- the type 2 record of document 002, table 6-9: the low bits of each register, four and Link Control's two, become 1, 2, 3, 4, 6, 2, 7, 8; the rest are kept
 abbrev pub type2 : List ℕ
 type2 =
-    2 ∷ 0x44 ∷ 0 ∷ 1 ∷ 0 ∷ 0 ∷ 0 ∷ 0xF0 ∷ 0xFF ∷ 0xFF ∷ 0xFF ∷ 1 ∷ 0 ∷ 0 ∷ 0 ∷ 0xF0
-    ∷ 0xFF ∷ 0xFF ∷ 0xFF ∷ 2 ∷ 0 ∷ 0 ∷ 0 ∷ 0xF0 ∷ 0xFF ∷ 0xFF ∷ 0xFF ∷ 3 ∷ 0 ∷ 0 ∷ 0 ∷ 0xF0
-    ∷ 0xFF ∷ 0xFF ∷ 0xFF ∷ 4 ∷ 0 ∷ 0 ∷ 0 ∷ 0xF0 ∷ 0xFF ∷ 0 ∷ 0 ∷ 6 ∷ 0 ∷ 0 ∷ 0 ∷ 0xFC
-    ∷ 0xFF ∷ 0 ∷ 0 ∷ 2 ∷ 0 ∷ 0 ∷ 0 ∷ 0xF0 ∷ 0xFF ∷ 0xFF ∷ 0xFF ∷ 7 ∷ 0 ∷ 0 ∷ 0 ∷ 0xF0
-    ∷ 0xFF ∷ 0xFF ∷ 0xFF ∷ 8 ∷ 0 ∷ 0 ∷ 0 ∷ []
+    2 ∷ 0x44 ∷ 0 ∷ 1 ∷ 0 ∷ 0 ∷ 0
+    ∷ 0xF1 ∷ 0xFF ∷ 0xFF ∷ 0xFF ∷ 1 ∷ 0 ∷ 0 ∷ 0
+    ∷ 0xF2 ∷ 0xFF ∷ 0xFF ∷ 0xFF ∷ 2 ∷ 0 ∷ 0 ∷ 0
+    ∷ 0xF3 ∷ 0xFF ∷ 0xFF ∷ 0xFF ∷ 3 ∷ 0 ∷ 0 ∷ 0
+    ∷ 0xF4 ∷ 0xFF ∷ 0xFF ∷ 0xFF ∷ 4 ∷ 0 ∷ 0 ∷ 0
+    ∷ 0xF6 ∷ 0xFF ∷ 0 ∷ 0 ∷ 6 ∷ 0 ∷ 0 ∷ 0
+    ∷ 0xFE ∷ 0xFF ∷ 0 ∷ 0 ∷ 2 ∷ 0 ∷ 0 ∷ 0
+    ∷ 0xF7 ∷ 0xFF ∷ 0xFF ∷ 0xFF ∷ 7 ∷ 0 ∷ 0 ∷ 0
+    ∷ 0xF8 ∷ 0xFF ∷ 0xFF ∷ 0xFF ∷ 8 ∷ 0 ∷ 0 ∷ 0 ∷ []
 
 -- a field that is skipped
 abbrev pub skipped : List ℕ
@@ -241,6 +245,40 @@ searches =
     ∷ (findRecord [] (0x03 ∷ 0xFE ∷ 0x0F ∷ replicate 4094 0) 0 gives found 8 0 0)
     ∷ []
 
+-- document 02, h: type 2 records with one senseless pair, and beside them those that have none
+abbrev pub masks : List Line
+masks =
+    -- bits set, cleared and kept; OR 9 in a pair at a time, where bit 0 or bit 3 is clear in AND
+    (findRecord [] type2 2 gives found 0 0 71)
+    ∷ (findRecord [] (set type2 11 9) 2 gives found 8 0 0)
+    ∷ (findRecord [] (set type2 19 9) 2 gives found 8 0 0)
+    ∷ (findRecord [] (set type2 27 9) 2 gives found 8 0 0)
+    ∷ (findRecord [] (set type2 35 9) 2 gives found 8 0 0)
+    ∷ (findRecord [] (set type2 43 9) 2 gives found 8 0 0)
+    ∷ (findRecord [] (set type2 51 9) 2 gives found 8 0 0)
+    ∷ (findRecord [] (set type2 59 9) 2 gives found 8 0 0)
+    ∷ (findRecord [] (set type2 67 9) 2 gives found 8 0 0)
+    -- bit 31 in the last pair: kept, set, cleared, senseless
+    ∷ (findRecord [] (set type2 70 0x80) 2 gives found 0 0 71)
+    ∷ (findRecord [] (set type2 66 0x7F) 2 gives found 0 0 71)
+    ∷ (findRecord [] (set (set type2 66 0x7F) 70 0x80) 2 gives found 8 0 0)
+    -- an AND mask of 0 with an OR mask of 0, and of 8
+    ∷ (findRecord [] (set (set (set (set (set type2 63 0) 64 0) 65 0) 66 0) 67 0) 2 gives found 0 0 71)
+    ∷ (findRecord [] (set (set (set (set type2 63 0) 64 0) 65 0) 66 0) 2 gives found 8 0 0)
+    -- the starred pair, AND 0xFFFFFFF0 and OR 6
+    ∷ (findRecord [] (set (set type2 7 0xF0) 11 6) 2 gives found 8 0 0)
+    -- the search for another type, in front of it and behind it; the same record with revision 2
+    ∷ (findRecord [] (types01 ++ set type2 67 9) 0 gives found 8 0 0)
+    ∷ (findRecord (set type2 67 9 ++ types01) [] 1 gives found 8 0 0)
+    ∷ (findRecord [] (types01 ++ set type2 67 9) 3 gives found 8 0 0)
+    ∷ (findRecord [] (set (set type2 67 9) 3 2) 2 gives found 9 0 0)
+    ∷ (findRecord [] (types01 ++ set (set type2 67 9) 3 2) 0 gives found 0 0 23)
+    -- tag 3 is skipped whatever its value; the slot's block alone decides
+    ∷ (findRecord [] (set (set type2 67 9) 0 3) 0 gives found 9 0 0)
+    ∷ (findRecord type2 (set type2 67 9) 2 gives found 0 0 71)
+    ∷ (findRecord (set type2 67 9) type2 2 gives found 8 0 0)
+    ∷ []
+
 -- ---- written records, document 02, g
 
 -- the settings of types01; for register k the masks 0xA3A2A1F0 + k and 0x83828180 + k, of Device Control and Link Control the low halves; by the three flags
@@ -309,28 +347,42 @@ pciXAlone a b c =
       «has_express» = 0;
     }
 
--- every mask 0xFFFFFFFF but those of Device Control and Link Control; the flags say that type 2 is present, or that none is
-abbrev pub masksAlone : (express deviceAnd deviceOr linkAnd linkOr : ℕ) → Settings
-masksAlone flag a b c d =
+-- the pairs of registers 0 to 7
+abbrev pub masksAlone : (express : ℕ) → (ℕ → Masks) → Settings
+masksAlone flag m =
     let s = settings 0 0 1 in
-    let all : Masks = record { and = 0xFFFFFFFF; or = 0xFFFFFFFF } in
     record {
       pci = s .pci;
       «pci_x» = s .«pci_x»;
       express = record {
-        «uncorrectable_error_mask» = all;
-        «uncorrectable_error_severity» = all;
-        «correctable_error_mask» = all;
-        «advanced_error_capabilities_and_control» = all;
-        «device_control» = record { and = a; or = b };
-        «link_control» = record { and = c; or = d };
-        «secondary_uncorrectable_error_severity» = all;
-        «secondary_uncorrectable_error_mask» = all;
+        «uncorrectable_error_mask» = m 0;
+        «uncorrectable_error_severity» = m 1;
+        «correctable_error_mask» = m 2;
+        «advanced_error_capabilities_and_control» = m 3;
+        «device_control» = m 4;
+        «link_control» = m 5;
+        «secondary_uncorrectable_error_severity» = m 6;
+        «secondary_uncorrectable_error_mask» = m 7;
       };
       «has_pci» = 0;
       «has_pci_x» = 0;
       «has_express» = flag;
     }
+
+-- the same pair for every register but register k
+abbrev pub but : (k : ℕ) (one rest : Masks) → ℕ → Masks
+but k one rest j = cond (eqb j k) one rest
+
+abbrev pub pair : (and or : ℕ) → Masks
+pair a b = record { and = a; or = b }
+
+-- every mask 0xFFFFFFFF but those of Device Control and Link Control; the flag says that type 2 is present, or that none is
+abbrev pub wordsAlone : (express deviceAnd deviceOr linkAnd linkOr : ℕ) → Settings
+wordsAlone flag a b c d = masksAlone flag (λ k. cond (eqb k 4) (pair a b) (but 5 (pair c d) (pair 0xFFFFFFFF 0xFFFFFFFF) k))
+
+-- bit 0 is clear in AND and set in OR of register k alone; in the others both masks have it
+abbrev pub senselessAt : (express k : ℕ) → Settings
+senselessAt flag k = masksAlone flag (but k (pair 0xFFFE 0x8001) (pair 0xFFFF 0x8001))
 
 -- settings with one value of each type other: cache line, read count, Link Control's OR mask; by the three flags
 abbrev pub oneOther : (pci pciX express cache read linkOr : ℕ) → Settings
@@ -338,7 +390,7 @@ oneOther a b c cache read linkOr =
     record {
       pci = pciAlone cache 255 1 1 .pci;
       «pci_x» = pciXAlone read 7 7 .«pci_x»;
-      express = masksAlone 1 65535 65535 65535 linkOr .express;
+      express = wordsAlone 1 65535 65535 65535 linkOr .express;
       «has_pci» = a;
       «has_pci_x» = b;
       «has_express» = c;
@@ -383,7 +435,7 @@ writes =
     -- a value out of its range and no room: 14 first; values of absent records
     ∷ (write (pciAlone 256 0 0 0) [] gives record { number = 14; length = 0; buffer = [] })
     ∷ (write (pciAlone 256 0 0 0) (lentBytes 24) gives record { number = 14; length = 0; buffer = lentBytes 24 })
-    ∷ (write (masksAlone 0 65536 65536 65536 65536) [] gives record { number = 0; length = 0; buffer = [] })
+    ∷ (write (wordsAlone 0 65536 65536 65536 65536) [] gives record { number = 0; length = 0; buffer = [] })
     -- each range at its limit, and one past it
     ∷ (numberOf (pciAlone 255 255 1 1) gives 0)
     ∷ (numberOf (pciAlone 256 255 1 1) gives 14)
@@ -394,11 +446,11 @@ writes =
     ∷ (numberOf (pciXAlone 4 7 7) gives 14)
     ∷ (numberOf (pciXAlone 3 8 7) gives 14)
     ∷ (numberOf (pciXAlone 3 7 8) gives 14)
-    ∷ (numberOf (masksAlone 1 65535 65535 65535 65535) gives 0)
-    ∷ (numberOf (masksAlone 1 65536 65535 65535 65535) gives 14)
-    ∷ (numberOf (masksAlone 1 65535 65536 65535 65535) gives 14)
-    ∷ (numberOf (masksAlone 1 65535 65535 65536 65535) gives 14)
-    ∷ (numberOf (masksAlone 1 65535 65535 65535 65536) gives 14)
+    ∷ (numberOf (wordsAlone 1 65535 65535 65535 65535) gives 0)
+    ∷ (numberOf (wordsAlone 1 65536 0 65535 65535) gives 14)
+    ∷ (numberOf (wordsAlone 1 65535 65536 65535 65535) gives 14)
+    ∷ (numberOf (wordsAlone 1 65535 65535 65536 0) gives 14)
+    ∷ (numberOf (wordsAlone 1 65535 65535 65535 65536) gives 14)
     -- all three present, one value of one type out of its range, no room, and room for the first record: 14 first
     ∷ (write (oneOther 1 1 1 255 3 65536) [] gives record { number = 14; length = 0; buffer = [] })
     ∷ (write (oneOther 1 1 1 255 4 65535) (lentBytes 23) gives record { number = 14; length = 0; buffer = lentBytes 23 })
@@ -411,6 +463,18 @@ writes =
     ∷ (numberOf (pciAlone 0x80000000 255 1 1) gives 14)
     ∷ (numberOf (pciAlone 0 0 0 0) gives 0)
     ∷ (numberOf (pciXAlone 0 7 0) gives 0)
+    -- document 02, h: no senseless pair; each of the eight; absent; no room: 14 first
+    ∷ (numberOf (senselessAt 1 8) gives 0)
+    ∷ (numberOf (senselessAt 1 0) gives 14)
+    ∷ (numberOf (senselessAt 1 1) gives 14)
+    ∷ (numberOf (senselessAt 1 2) gives 14)
+    ∷ (numberOf (senselessAt 1 3) gives 14)
+    ∷ (numberOf (senselessAt 1 4) gives 14)
+    ∷ (numberOf (senselessAt 1 5) gives 14)
+    ∷ (numberOf (senselessAt 1 6) gives 14)
+    ∷ (numberOf (senselessAt 1 7) gives 14)
+    ∷ (numberOf (senselessAt 0 7) gives 0)
+    ∷ (write (senselessAt 1 7) (lentBytes 70) gives record { number = 14; length = 0; buffer = lentBytes 70 })
     -- flags of other bits
     ∷ (write (settings 2 4 128) (lentBytes 113) gives record { number = 0; length = 113; buffer = types01 ++ expressRecord })
     ∷ []
@@ -507,6 +571,11 @@ registers =
     ∷ (registersOn 0x11 0 0xFFFF 0xFFFF
     gives newRegisters 0 0xFFFF 0xFFFF (0xFFFF ∷ 0xFFFF ∷ 0xFFFF ∷ 0xFFFF ∷ 0x8F1F ∷ 0xFFFF ∷ 0xFFFF ∷ 0xFFFF ∷ []))
     ∷ (registersOn 0x11 0xFFFF 0 0 gives newRegisters 0xFFFF 0 0 (0 ∷ 0 ∷ 0 ∷ 0 ∷ 0x70E0 ∷ 0 ∷ 0 ∷ 0 ∷ []))
+    -- document 02, h: OR within AND, and the two exchanged; AER held, when six of the pairs are not used
+    ∷ (registersOn 0x11 0x2810 0x0810 0x0010
+    gives newRegisters 0x2810 0x0810 0x0010 (0x0810 ∷ 0x0810 ∷ 0x0810 ∷ 0x0810 ∷ 0x2810 ∷ 0x0810 ∷ 0x0810 ∷ 0x0810 ∷ []))
+    ∷ (registersOn 0x11 0x2810 0x0010 0x0810 gives outcome 8 (values (replicate 8 0)) ([] ∷ samePairs 0x0010 0x0810 ∷ replicate 8 0x2810 ∷ []))
+    ∷ (registersOn 0x19 0x2810 0x0010 0x0810 gives outcome 8 (values (replicate 8 0)) ([] ∷ samePairs 0x0010 0x0810 ∷ replicate 8 0x2810 ∷ []))
     ∷ []
 
 -- ---- grants beyond the sheet: a held bit that is not permitted, and bit 3 that is not; a bit above 4; bits 0 to 2 that are not permitted, with status and support of all bits;
@@ -545,4 +614,4 @@ places =
     ∷ []
 
 abbrev pub ExampleRuns : Type 0
-ExampleRuns = AllHold starts × AllHold run × AllHold searches × AllHold writes × AllHold reads × AllHold images × AllHold romSizes × AllHold registers × AllHold grants × AllHold places
+ExampleRuns = AllHold starts × AllHold run × AllHold searches × AllHold masks × AllHold writes × AllHold reads × AllHold images × AllHold romSizes × AllHold registers × AllHold grants × AllHold places

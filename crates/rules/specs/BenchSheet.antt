@@ -1,4 +1,4 @@
--- The bench sheet: each starred line, and what document 02, f, works out, with what the definitions give and what the document states. P permitted, H held, R requested, G granted.
+-- The bench sheet: each starred line, and what document 02, f and h, work out, with what the definitions give and what the document states. P permitted, H held, R requested, G granted.
 use Prim.Native.Nat.{ℕ, zero, suc}
 use mathlib.Core.Path.{_≡_}
 use mathlib.Core.Bool.{true, false}
@@ -53,6 +53,10 @@ pairs (suc n) and or = le32 and ++ le32 or ++ pairs n and or
 abbrev pub samePairs : (and or : ℕ) → List ℕ
 samePairs and or = 2 ∷ 68 ∷ 0 ∷ 1 ∷ 0 ∷ 0 ∷ 0 ∷ pairs 8 and or
 
+-- a block that is one type 2 record with this pair for the first register; every bit of the others is kept
+abbrev pub firstPair : (and or : ℕ) → List ℕ
+firstPair and or = 2 ∷ 68 ∷ 0 ∷ 1 ∷ 0 ∷ 0 ∷ 0 ∷ pairs 1 and or ++ pairs 7 0xFFFF 0
+
 -- the register values of a card on the bridge, whose registers all have the same value, by that block
 abbrev pub registersOn : (held value and or : ℕ) → Outcome
 registersOn held value and or = outcomeOn (bridgeWith 0x1F held) (registerValues [] (samePairs and or) (replicate 8 value))
@@ -91,6 +95,9 @@ sheet =
     ∷ (entrySound (record { base = 0xFFFFFFFFF0100000; segment = 0; «start_bus» = 0; «end_bus» = 254 }) gives true)
     -- current 0x2110, AND 0xFFFFFFF0, OR 0x6: 0x2116
     ∷ (andOr 0x2110 0xFFFFFFF0 0x6 gives 0x2116)
+    -- document 02, h: "no sound block carries that pair"
+    ∷ (outcomeOn (bridgeWith 0x1F 0x11) (registerValues [] (firstPair 0xFFFFFFF0 0x6) (replicate 8 0x2110))
+    gives outcome 8 (values (replicate 8 0)) ([] ∷ firstPair 0xFFFFFFF0 0x6 ∷ replicate 8 0x2110 ∷ []))
     -- the 42-byte block, the example of document 002: sound
     ∷ (blockSound (
     0x00 ∷ 0x14 ∷ 0x00 ∷ 1 ∷ 0 ∷ 0 ∷ 0 ∷ 8 ∷ 0 ∷ 0 ∷ 0 ∷ 0x40 ∷ 0 ∷ 0 ∷ 0 ∷ 1 ∷ 0 ∷ 0 ∷ 0 ∷ 0 ∷ 0 ∷ 0 ∷ 0

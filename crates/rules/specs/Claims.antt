@@ -4,7 +4,7 @@ use mathlib.Core.Path.{_≡_}
 use mathlib.Core.Logic.{_↔_, _⊎_}
 use mathlib.Core.Bool.{Bool, true, false}
 use mathlib.Core.List.{List, [], _∷_, _++_, map}
-use mathlib.Core.Option.{some}
+use mathlib.Core.Option.{Option, none, some}
 use Prim.Native.Nat.{ℕ, _+_, _*_, _≤_, _<_}
 use lib.Bits.{bitOr}
 use lib.ListN.{length, getD, take, drop}
@@ -16,7 +16,7 @@ use Rattle.rules.specs.Tables.{nothingHeld, holding, cleared, owns, brid
 use Rattle.rules.specs.Place.{InReach}
 use Rattle.rules.specs.Start.{StartInput, startRefusals, startNumber, startTable, tableOf, Sound}
 use Rattle.rules.specs.Osc.{grantedBit, granted, uuidBytes, status, query, control}
-use Rattle.rules.specs.Records.{blockSound, deciding, recordRefusals, findRecord}
+use Rattle.rules.specs.Records.{andMask, orMask, meaningful, blockSound, deciding, recordIn, recordRefusals, findRecord, andOr}
 use Rattle.rules.specs.Rom.{imageSignature, structureAt, imagesOf, romSound, imageRefusals, findImage, Chain}
 use Rattle.rules.specs.Writer.{presentIn, writeRefusals, writeRecords, bufferAfter, readSettings, placeAmong, onlyRising, dwordsIn, areBytes}
 use Rattle.rules.specs.Calls.{osc, reset, address, Call, on, locate, Result, addressed, located, Outcome, outcome, step, listed, zerosOf, lentTo, tableAfter, sessionOf, callsOf, outcomesOf, widthOf}
@@ -25,6 +25,7 @@ use Rattle.rules.specs.declared.Bridge.{Bridge}
 use Rattle.rules.specs.declared.BridgeNumber.{BridgeNumber}
 use Rattle.rules.specs.declared.SessionNumber.{SessionNumber}
 use Rattle.rules.specs.declared.Table.{Table}
+use Rattle.rules.specs.declared.Field.{Field}
 use Rattle.rules.specs.declared.FoundAt.{FoundAt}
 use Rattle.rules.specs.declared.Image.{Image}
 use Rattle.rules.specs.declared.Place.{Place}
@@ -86,6 +87,24 @@ ImagePart = (rom : List ℕ) (vendor device codeType : ℕ)
 -- a ROM is sound exactly where it has a chain of sound images from its first byte to a last image, and these are then its images
 abbrev pub SoundChain : Type 0
 SoundChain = (rom : List ℕ) (r : List Image) → ((romSound rom ≡ true) × (imagesOf rom ≡ some r)) ↔ ((length rom ≤ maxRom) × Chain rom 0 r)
+
+-- ---- document 02, h: what a pair of masks asks
+
+-- document 002, of one bit: "RsvdP", which keeps its value; "configured as 0"; "configured a 1"; the fourth has no meaning
+abbrev pub acpiBit : (and or current : Bool) → Option Bool
+acpiBit true false current = some current
+acpiBit false false current = some false
+acpiBit true true current = some true
+acpiBit false true current = none
+
+-- a pair is meaningful exactly where each bit is one of "ACPI's three cases" and the formula gives what its case says
+abbrev pub ThreeCases : Type 0
+ThreeCases = (and or : ℕ) → meaningful and or ≡ true ↔ ((current i : ℕ) → acpiBit (bit and i) (bit or i) (bit current i) ≡ some (bit (andOr current and or) i))
+
+-- "no sound block carries that pair": the eight pairs of the type 2 record of a sound block are meaningful
+abbrev pub SoundPairs : Type 0
+SoundPairs = (block : List ℕ) (f : Field) (k : ℕ) → blockSound block ≡ true → recordIn block 2 ≡ some f → k < 8
+    → meaningful (andMask block f k) (orMask block f k) ≡ true
 
 -- ---- document 02, g: what is written
 

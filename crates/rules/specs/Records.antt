@@ -8,7 +8,7 @@ use lib.Dec.{eqb, leb, ltb}
 use lib.ListN.{length, getD}
 use Rattle.rules.specs.Limits.{maxBlock}
 use Rattle.rules.specs.Lists.{every, pairwise, first, isNone, prepend}
-use Rattle.rules.specs.Numbers.{byte, word, dword, bit, number}
+use Rattle.rules.specs.Numbers.{byte, word, dword, bit, within, number}
 use Rattle.rules.specs.Parts.{partBy}
 use Rattle.rules.specs.Refusals.{Refusal, _if_, firstOf}
 use Rattle.rules.specs.declared.Field.{Field}
@@ -66,14 +66,15 @@ andMask l f k = value l f (andNumber k)
 abbrev pub orMask : List ℕ → Field → ℕ → ℕ
 orMask l f k = value l f (orNumber k)
 
--- a range: which number of the value, and what it is at most
-pub record Range : Type 0 where
-  pub number : ℕ
-  pub most : ℕ
+-- document 02, h: "a bit clear in the AND mask and set in the OR mask" has no meaning, so each bit of OR is one of AND
+abbrev pub meaningful : (and or : ℕ) → Bool
+meaningful and or = within or and
 
+-- what the numbers of a value must keep: number k is at most so much; the pair of register k is meaningful
 infix 40 _atMost_
-abbrev pub _atMost_ : (number most : ℕ) → Range
-k atMost m = record { number = k; most = m }
+pub data Range : Type 0 where
+  _atMost_ : (number most : ℕ) → Range
+  pairOf : (register : ℕ) → Range
 
 -- the ranges of types 0, 1 and 2, once for the search and for the writer of document 02, g; the fields are those of document 002, tables 6-7 to 6-9
 abbrev pub ranges : ℕ → List Range
@@ -81,14 +82,16 @@ abbrev pub ranges : ℕ → List Range
 ranges zero = (1 atMost 255) ∷ (2 atMost 255) ∷ (3 atMost 1) ∷ (4 atMost 1) ∷ []
 -- "read count at most 3, both split counts at most 7"
 ranges (suc zero) = (1 atMost 3) ∷ (2 atMost 7) ∷ (3 atMost 7) ∷ []
--- "those of Device Control and Link Control at most 65535"
+-- "those of Device Control and Link Control at most 65535"; document 02, h, of all "eight AND/OR pairs"
 ranges (suc (suc n)) =
     (andNumber deviceControl atMost 65535) ∷ (orNumber deviceControl atMost 65535)
-    ∷ (andNumber linkControl atMost 65535) ∷ (orNumber linkControl atMost 65535) ∷ []
+    ∷ (andNumber linkControl atMost 65535) ∷ (orNumber linkControl atMost 65535)
+    ∷ pairOf 0 ∷ pairOf 1 ∷ pairOf 2 ∷ pairOf 3 ∷ pairOf 4 ∷ pairOf 5 ∷ pairOf 6 ∷ pairOf 7 ∷ []
 
--- the number that a range speaks of is in it, where v k is number k
+-- one range holds, where v k is number k of the value
 abbrev pub inRange : (ℕ → ℕ) → Range → Bool
-inRange v r = leb (v (r .number)) (r .most)
+inRange v (k atMost m) = leb (v k) m
+inRange v (pairOf k) = meaningful (v (andNumber k)) (v (orNumber k))
 
 -- every range of the type holds
 abbrev pub inRanges : ℕ → (ℕ → ℕ) → Bool

@@ -7,28 +7,29 @@ use mathlib.Core.Bool.{Bool, true, false, cond}
 use mathlib.Core.List.{List, [], _∷_, _++_, map}
 use Prim.Native.Nat.{ℕ, suc, _+_, _*_, _≤_, _<_}
 use native.Mathlib.Omega.{arith}
-use lib.Bits.{bitOr}
+use lib.Bits.{bitAnd, bitOr}
 use lib.Dec.{ltb}
 use lib.ListN.{length, getD, take, drop}
 use mathlib.Core.Option.{some}
 use Rattle.rules.specs.Limits.{maxRom}
-use Rattle.rules.specs.Numbers.{byte, word, dword, bit}
+use Rattle.rules.specs.Numbers.{byte, word, dword, bit, within}
 use Rattle.rules.specs.Lists.{every, pairwise}
 use Rattle.rules.specs.Refusals.{GivenBy}
 use Rattle.rules.specs.Tables.{nothingHeld, holding, cleared, owns, bridgeAt}
 use Rattle.rules.specs.Place.{InReach}
 use Rattle.rules.specs.Start.{StartInput, startRefusals, startNumber, startTable, tableOf, Sound}
 use Rattle.rules.specs.Osc.{grantedBit, granted, status, query, control}
-use Rattle.rules.specs.Records.{blockSound, deciding, recordRefusals, findRecord}
+use Rattle.rules.specs.Records.{andMask, orMask, blockSound, deciding, recordIn, recordRefusals, findRecord}
 use Rattle.rules.specs.Rom.{imageSignature, structureAt, imagesOf, romSound, imageRefusals, findImage, Chain}
 use Rattle.rules.specs.Writer.{Setting, presentIn, writeRefusals, writeRecords, bufferAfter, readSettings, placeAmong, onlyRising}
 use Rattle.rules.specs.Calls.{Call, on, osc, reset, locate, Result, addressed, located, Outcome, outcome, step, listed, zerosOf, lentTo, tableAfter, outcomes, isUnder, callsOf, outcomesOf}
 use Rattle.rules.specs.History.{reaches, historyFrom}
-use Rattle.rules.specs.Claims.{addressCall, answers, Given, Separate, Buffers, rightCall, answerOf, Undisturbed, atTaking, secondOutcome, takingOutcome, returned, Negotiated}
+use Rattle.rules.specs.Claims.{acpiBit, addressCall, answers, Given, Separate, Buffers, rightCall, answerOf, Undisturbed, atTaking, secondOutcome, takingOutcome, returned, Negotiated}
 use Rattle.rules.specs.BenchSheet.{AllHold, sheet}
-use Rattle.rules.specs.BenchRuns.{starts, run, searches, writes, reads, images, romSizes, registers, grants, places}
+use Rattle.rules.specs.BenchRuns.{starts, run, searches, masks, writes, reads, images, romSizes, registers, grants, places}
 use Rattle.rules.specs.declared.Table.{Table}
 use Rattle.rules.specs.declared.Bridge.{Bridge}
+use Rattle.rules.specs.declared.Field.{Field}
 use Rattle.rules.specs.declared.FoundAt.{FoundAt}
 use Rattle.rules.specs.declared.Image.{Image}
 use Rattle.rules.specs.declared.Place.{Place}
@@ -149,6 +150,15 @@ image-inside = all-claims .image-part
 
 pub chain-sound : (rom : List ℕ) (r : List Image) → ((romSound rom ≡ true) × (imagesOf rom ≡ some r)) ↔ ((length rom ≤ maxRom) × Chain rom 0 r)
 chain-sound = all-claims .sound-chain
+
+-- ---- document 02, h: what a pair of masks asks of each bit, and the pairs of a sound block
+
+pub bits-asked : (and or : ℕ) → within or and ≡ true ↔ ((current i : ℕ) → acpiBit (bit and i) (bit or i) (bit current i) ≡ some (bit (bitOr (bitAnd current and) or) i))
+bits-asked = all-claims .three-cases
+
+pub pairs-sound : (block : List ℕ) (f : Field) (k : ℕ) → blockSound block ≡ true → recordIn block 2 ≡ some f → k < 8
+    → within (orMask block f k) (andMask block f k) ≡ true
+pairs-sound = all-claims .sound-pairs
 
 -- ---- document 02, g: written, read, and written again
 
@@ -284,8 +294,8 @@ pub granted-bits : (b : Bridge) (support requested i : ℕ) → bit (granted b s
 granted-bits = all-claims .granted-bits
 
 -- as many lines as there are, and all hold
-pub lines : AllHold sheet × (AllHold starts × AllHold run × AllHold searches × AllHold writes × AllHold reads × AllHold images × AllHold romSizes × AllHold registers × AllHold grants × AllHold places)
+pub lines : AllHold sheet × (AllHold starts × AllHold run × AllHold searches × AllHold masks × AllHold writes × AllHold reads × AllHold images × AllHold romSizes × AllHold registers × AllHold grants × AllHold places)
 lines = (all-claims .bench-sheet, all-claims .example-runs)
 
-pub how-many : (length sheet ≡ 13) × (length starts ≡ 28) × (length run ≡ 1) × (length searches ≡ 17) × (length writes ≡ 41) × (length reads ≡ 11) × (length images ≡ 29) × (length romSizes ≡ 2) × (length registers ≡ 3) × (length grants ≡ 5) × (length places ≡ 13)
-how-many = (refl, refl, refl, refl, refl, refl, refl, refl, refl, refl, refl)
+pub how-many : (length sheet ≡ 14) × (length starts ≡ 28) × (length run ≡ 1) × (length searches ≡ 17) × (length masks ≡ 23) × (length writes ≡ 52) × (length reads ≡ 11) × (length images ≡ 29) × (length romSizes ≡ 2) × (length registers ≡ 6) × (length grants ≡ 5) × (length places ≡ 13)
+how-many = (refl, refl, refl, refl, refl, refl, refl, refl, refl, refl, refl, refl)

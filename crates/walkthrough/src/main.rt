@@ -22,6 +22,9 @@ const AND: u32 = 0x5020;
 
 const OR: u32 = 0x5020;
 
+// Without bit 5, which OR sets.
+const SENSELESS_AND: u32 = 0x5000;
+
 // A bit set or a register.
 fn bits(before: &[u8], n: u32, width: usize) {
     hex(before, n as u64, width);
@@ -270,13 +273,13 @@ fn image(words: &[u8], bytes: usize, code_type: u32)
 }
 
 // Register values by a type 2 record in the bridge's block; the slot has no block. Device Control is register 4, Link Control 5, Uncorrectable Error Mask 0.
-fn values(words: &[u8], t: Table, s: SessionNumber, n: BridgeNumber)
+fn values(words: &[u8], t: Table, s: SessionNumber, n: BridgeNumber, and: u32)
     requires { ⌜ Sound t ⌝ }
 {
     caller_and_bridge(words, s, n);
-    bits(b", register values AND ", AND, 1);
+    bits(b", register values AND ", and, 1);
     bits(b" OR ", OR, 1);
-    let block = fixtures::settings(AND, OR);
+    let block = fixtures::settings(and, OR);
     let slot = [0u8; 0];
     let current = [CURRENT; 8];
     let v = bridges::register_values(t, s, n, &slot, &block, &current);
@@ -366,6 +369,7 @@ fn class_is_refused(t: Table) -> Table
         t,
         class,
         live,
+        AND,
     );
     report(b"The plant looks at its bridge.", t, SessionNumber(2), live);
     report(b"The class looks at its bridge.", t, class, BridgeNumber(0));
@@ -431,6 +435,14 @@ fn class_lets_go(t: Table)
         t,
         class,
         own,
+        AND,
+    );
+    values(
+        b"The class tries a record whose OR mask sets a bit that is clear in its AND mask.",
+        t,
+        class,
+        own,
+        SENSELESS_AND,
     );
     let after = reset(b"The class resets its bridge.", t, class, own);
     report(b"The class looks at its bridge.", after, class, own);
@@ -439,6 +451,7 @@ fn class_lets_go(t: Table)
         after,
         class,
         own,
+        AND,
     );
     report(
         b"The plant looks at its bridge.",

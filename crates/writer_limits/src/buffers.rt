@@ -1,12 +1,13 @@
 // The buffer's length, the records that are present, and which refusal comes first: "number 15 when the buffer is too short for the result; 14 first".
 use crate::writing::came;
 use crate::writing::settings;
+use crate::writing::with_masks;
 use crate::writing::write;
 use rules::Masks;
 use rules::PciSetting;
 use rules::PciXSetting;
 use rules::Settings;
-ghost use Prim.Native.Nat.{_≤_};
+ghost use Prim.Native.Nat.{_<_, _≤_};
 
 // 1 for a byte that is not 0xaa.
 fn one_if_changed(x: u8) -> usize
@@ -108,6 +109,35 @@ fn bad(record_type: u8, pci: u8, pci_x: u8, express: u8, lent: usize)
     );
 }
 
+// Register k has a senseless pair: bit 0 is clear in AND and set in OR.
+fn senseless(k: usize, pci: u8, pci_x: u8, express: u8, lent: usize)
+    requires { ⌜ (k < 8) × (lent ≤ 128) ⌝ }
+{
+    print::decimals(
+        b"senseless",
+        &[
+            k as u64,
+            pci as u64,
+            pci_x as u64,
+            express as u64,
+            lent as u64,
+        ],
+    );
+    counted(
+        with_masks(settings(pci, pci_x, express), k, 0xfe, 0xf),
+        lent,
+    );
+}
+
+// Each register in turn, with room for all three records.
+fn each_senseless(express: u8) {
+    let mut k = 0;
+    while k < 8 {
+        senseless(k, 1, 1, express, 113);
+        k += 1;
+    }
+}
+
 // "hands back their length"; "leaving the rest untouched"
 fn lengths() {
     records(1, 1, 1, 113);
@@ -164,6 +194,19 @@ fn orders() {
     bad(0, 0, 0, 0, 0);
 }
 
+// Document 02, h: 14 before 15; the masks of a type 2 record that is not there count for nothing
+fn senseless_pairs() {
+    each_senseless(1);
+    each_senseless(0);
+    senseless(0, 1, 1, 1, 112);
+    senseless(7, 0, 0, 1, 71);
+    senseless(7, 0, 0, 1, 70);
+    senseless(7, 0, 0, 255, 0);
+    senseless(7, 1, 1, 0, 42);
+    senseless(7, 1, 1, 0, 41);
+    senseless(7, 0, 0, 0, 0);
+}
+
 pub fn lines() {
     print::text(
         b"(records: flags of types 0, 1 and 2, bytes lent; how many of 128 bytes of 0xaa are changed)\n",
@@ -172,4 +215,6 @@ pub fn lines() {
     flags();
     print::text(b"(bad: type whose values break their ranges; then the same)\n");
     orders();
+    print::text(b"(senseless: register whose pair it is; then the same)\n");
+    senseless_pairs();
 }

@@ -1,4 +1,4 @@
-// The limits of the writer of record blocks: document 02, g.
+// The limits of the writer of record blocks: document 02, g and h.
 
 mod buffers;
 mod reading;

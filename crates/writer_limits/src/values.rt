@@ -1,11 +1,10 @@
-// The ranges: "Number 14 when a value breaks a range in document 01". One record alone, into a byte more than it has.
+// The ranges: "Number 14 when a value breaks a range in document 01"; senseless masks. One record alone, into a byte more than it has.
 use crate::writing::ROOM;
 use crate::writing::came;
-use crate::writing::different_masks;
 use crate::writing::record;
 use crate::writing::settings;
+use crate::writing::with_masks;
 use crate::writing::write;
-use rules::Masks;
 use rules::PciSetting;
 use rules::PciXSetting;
 use rules::Settings;
@@ -64,18 +63,6 @@ fn type_1(read_count: u32, average: u32, total: u32) {
     whole(s, 20);
 }
 
-// A type 2 record in which register k has these masks.
-fn with_masks(k: usize, and: u32, or: u32) -> Settings
-    requires { ⌜ k < 8 ⌝ }
-{
-    let mut m = different_masks();
-    m[k] = Masks { and, or };
-    let mut s = settings(0, 0, 1);
-    let e = fixtures::express(m);
-    s.express = e;
-    s
-}
-
 // The DWORDs at a byte and behind it.
 fn two_dwords(b: &[u8; ROOM], at: usize)
     requires { ⌜ at ≤ 120 ⌝ }
@@ -90,10 +77,19 @@ fn masks(k: usize, and: u32, or: u32)
 {
     print::decimals(b"masks", &[k as u64]);
     print::hexes(b"", &[and as u64, or as u64]);
-    let l = write(with_masks(k, and, or), 72);
+    let l = write(with_masks(settings(0, 0, 1), k, and, or), 72);
     came(l);
     two_dwords(&l.bytes, 7 + 8 * k);
     print::end();
+}
+
+// Each register in turn.
+fn each(and: u32, or: u32) {
+    let mut k = 0;
+    while k < 8 {
+        masks(k, and, or);
+        k += 1;
+    }
 }
 
 // "type 0 cache line and latency at most 255, SERR and PERR 0 or 1"
@@ -141,12 +137,14 @@ fn limited() {
     masks(4, 0x8000_0000, 0);
     masks(4, 0xffff, 0xffff);
     masks(4, 0xffff, 0x1_0000);
+    masks(4, 0x1_0000, 0x1_0000);
     masks(4, 0xffff, 0x8000_0000);
     masks(5, 0xffff, 0);
     masks(5, 0x1_0000, 0);
     masks(5, 0x8000_0000, 0);
     masks(5, 0xffff, 0xffff);
     masks(5, 0xffff, 0x1_0000);
+    masks(5, 0x1_0000, 0x1_0000);
     masks(5, 0xffff, 0x8000_0000);
 }
 
@@ -161,6 +159,29 @@ fn free() {
     masks(7, 0xffff_ffff, 0xffff_ffff);
 }
 
+// Document 02, h: "a bit clear in the AND mask and set in the OR mask". Bits 1 to 3 are set, 4 to 7 kept, the rest cleared; bit 0 is set, then senseless.
+fn pairs() {
+    each(0xff, 0xf);
+    each(0xfe, 0xf);
+}
+
+// One bit cleared, set, senseless; an AND mask of 0, and single bits; the pair of the bench sheet, and with OR's bits in AND
+fn bits() {
+    masks(0, 0xffff_fffe, 0);
+    masks(0, 0xffff_ffff, 1);
+    masks(0, 0xffff_fffe, 1);
+    masks(7, 0x7fff_ffff, 0);
+    masks(7, 0xffff_ffff, 0x8000_0000);
+    masks(7, 0x7fff_ffff, 0x8000_0000);
+    masks(4, 0x7fff, 0x8000);
+    masks(5, 0x7fff, 0x8000);
+    masks(3, 0, 0);
+    masks(3, 0, 1);
+    masks(3, 2, 1);
+    masks(0, 0xffff_fff0, 0x6);
+    masks(0, 0xffff_fff6, 0x6);
+}
+
 pub fn lines() {
     pci();
     pci_x();
@@ -169,4 +190,6 @@ pub fn lines() {
     );
     limited();
     free();
+    pairs();
+    bits();
 }

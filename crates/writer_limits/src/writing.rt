@@ -1,7 +1,7 @@
 // A call of the writer, what it is given, and what it leaves.
 use rules::Masks;
 use rules::Settings;
-ghost use Prim.Native.Nat.{_≤_};
+ghost use Prim.Native.Nat.{_<_, _≤_};
 
 // The bytes of a buffer; the first ones are lent, and each is 0xaa before the call. No record below has such a byte.
 pub const ROOM: usize = 128;
@@ -31,7 +31,7 @@ fn pair(and: u32, or: u32) -> Masks {
 
 // Register k, from 0, has the AND mask 0xf0e0d0c0 + (k + 1) x 0x01010101 and the OR mask 0x10204080 + (k + 1) x 0x01010101; Device Control and Link Control,
 // registers 4 and 5, have the low halves. So the sixteen differ, and each OR mask lies within its AND mask.
-pub fn different_masks() -> [Masks; 8] {
+fn different_masks() -> [Masks; 8] {
     [
         pair(0xf1e1_d1c1, 0x1121_4181),
         pair(0xf2e2_d2c2, 0x1222_4282),
@@ -52,6 +52,17 @@ pub fn settings(pci: u8, pci_x: u8, express: u8) -> Settings {
     s.has_pci = pci;
     s.has_pci_x = pci_x;
     s.has_express = express;
+    s
+}
+
+// The settings with other masks of register k.
+pub fn with_masks(mut s: Settings, k: usize, and: u32, or: u32) -> Settings
+    requires { ⌜ k < 8 ⌝ }
+{
+    let mut m = different_masks();
+    m[k] = pair(and, or);
+    let e = fixtures::express(m);
+    s.express = e;
     s
 }
 

@@ -1,7 +1,7 @@
 //! Every line of document 01's bench sheet, and the value that document 02, f, works out.
 
 use crate::build::*;
-use reference::{Refusal, find_record, granted};
+use reference::{Masks, Refusal, find_record, granted};
 
 /// One granting line: P, H, R, then G, status and the held bits after.
 fn granting(permitted: u32, held_before: u32, requested: u32, expect: (u32, u32, u32)) {
@@ -68,11 +68,34 @@ fn window_runs_past_2_to_64() {
     assert!(start(&[(base, 0, 0, 254)], &[]).is_ok());
 }
 
+/// The masks of the starred AND/OR line.
+const STARRED: Masks = Masks {
+    and: 0xFFFF_FFF0,
+    or: 0x6,
+};
+
+/// A fact of the formula by itself.
 #[test]
 fn and_then_or() {
+    assert_eq!(STARRED.new_value(0x2110), 0x2116);
+}
+
+/// Document 02, h.
+#[test]
+fn no_sound_block_carries_that_pair() {
+    let block = express(STARRED.and, STARRED.or);
+    assert_eq!(find_record(&block, &[], 2), Err(Refusal::RecordBlock));
     let table = holding(0x1F, 0x11);
-    let block = express(0xFFFF_FFF0, 0x6);
     let values = table.register_values(OWNER, BRIDGE, &block, &[], &[0x2110; 8]);
+    assert_eq!(values, Err(Refusal::RecordBlock));
+}
+
+/// The same result by masks that have a meaning: bits 1 and 2 set, bits 0 and 3 cleared.
+#[test]
+fn and_then_or_in_a_block() {
+    let table = holding(0x1F, 0x11);
+    let block = express(0xFFFF_FFF6, 0x6);
+    let values = table.register_values(OWNER, BRIDGE, &block, &[], &[0x2119; 8]);
     assert_eq!(values, Ok([0x2116; 8]));
 }
 

@@ -163,6 +163,18 @@ pub fn express_numbers(and_mask: u32, or_mask: u32) -> [u32; 17] {
     numbers
 }
 
+/// Such numbers, each pair with a meaning, but for one register this pair.
+pub fn express_numbers_with(register: usize, pair: [u32; 2]) -> [u32; 17] {
+    let mut numbers = express_numbers(0xFFFF_FF0F, 0x0009);
+    numbers[1 + 2 * register..][..2].copy_from_slice(&pair);
+    numbers
+}
+
+/// A record with these numbers.
+pub fn express_with(register: usize, pair: [u32; 2]) -> Vec<u8> {
+    record(2, &express_numbers_with(register, pair))
+}
+
 /// An image of a ROM: what its header and its structure say.
 #[derive(Clone, Copy)]
 pub struct Image {

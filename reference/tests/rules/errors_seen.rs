@@ -1,7 +1,7 @@
 //! Every line of "Errors we have seen".
 
 use crate::build::*;
-use reference::{Holding, Refusal, find_record};
+use reference::{Holding, Masks, Refusal, find_record};
 
 #[test]
 fn start_bus_is_not_subtracted() {
@@ -51,15 +51,14 @@ fn query_changes_nothing() {
     assert_eq!(table.report(OWNER, BRIDGE), Ok(taken));
 }
 
+/// Of the formula by itself: the masks of a sound block give the same in either order (document 02, h).
 #[test]
 fn and_comes_before_or() {
-    let table = holding(0x1F, 0x11);
-    let block = express(0x00F0, 0x0F0F);
-    let values = table.register_values(OWNER, BRIDGE, &block, &[], &[0x1234; 8]);
-    let mut expect = [0x0F3F; 8];
-    // Device Control keeps bits 5 to 7 and 12 to 14.
-    expect[4] = 0x1F3F;
-    assert_eq!(values, Ok(expect));
+    let masks = Masks {
+        and: 0x00F0,
+        or: 0x0F0F,
+    };
+    assert_eq!(masks.new_value(0x1234), 0x0F3F);
 }
 
 #[test]

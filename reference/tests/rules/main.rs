@@ -1,8 +1,9 @@
-//! Document 01, and of document 02 the ROM, a, and the writer, g, on single inputs, through the public calls.
+//! Document 01, and of document 02 the ROM, a, the writer, g, and the masks, h, on single inputs, through the public calls.
 
 mod bench_sheet;
 mod build;
 mod errors_seen;
+mod mask_rules;
 mod osc_rules;
 mod place_rules;
 mod record_rules;

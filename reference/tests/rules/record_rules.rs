@@ -27,11 +27,13 @@ fn limits_of_each_number() {
         let numbers: Vec<u32> = [1].into_iter().chain(limits).collect();
         assert!(sound(&record(tag, &numbers)));
         for at in (1..numbers.len()).filter(|&at| numbers[at] != u32::MAX) {
-            let mut above = numbers.clone();
-            above[at] += 1;
-            assert!(!sound(&record(tag, &above)), "{tag} {at}");
-            above[at] = 1 << 31;
-            assert!(!sound(&record(tag, &above)), "{tag} {at}");
+            let limit = numbers[at];
+            // The second has all bits of the limit, so that an AND mask has those of its OR mask.
+            for value in [limit + 1, 2 * limit + 1, 1 << 31] {
+                let mut above = numbers.clone();
+                above[at] = value;
+                assert!(!sound(&record(tag, &above)), "{tag} {at} {value:#X}");
+            }
         }
     }
 }
@@ -96,7 +98,7 @@ fn bytes_left_over_or_missing() {
 
 #[test]
 fn the_same_record_twice() {
-    for twice in [pci(), pci_x(), express(1, 2)] {
+    for twice in [pci(), pci_x(), express(3, 2)] {
         assert!(sound(&twice));
         assert!(!sound(&[&twice[..], &other_type(&twice), &twice].concat()));
     }
@@ -111,11 +113,11 @@ fn other_type(record: &[u8]) -> Vec<u8> {
 
 #[test]
 fn block_of_4096_bytes() {
-    let mut block = express(1, 2);
+    let mut block = express(3, 2);
     block.extend(field(3, &[0; 4096 - 71 - 3]));
     assert_eq!(block.len(), 4096);
     assert_eq!(find_record(&block, &[], 2), Ok(&block[..71]));
-    let over = [&express(1, 2)[..], &field(3, &[0; 4097 - 71 - 3])].concat();
+    let over = [&express(3, 2)[..], &field(3, &[0; 4097 - 71 - 3])].concat();
     assert_eq!(over.len(), 4097);
     assert!(!sound(&over));
     assert_eq!(find_record(&over, &block, 2), Err(Refusal::RecordBlock));
@@ -130,7 +132,7 @@ fn whole_block_is_checked_first() {
 
 #[test]
 fn types_are_compared_whole() {
-    let block = [pci(), pci_x(), express(3, 4)].concat();
+    let block = [pci(), pci_x(), express(7, 4)].concat();
     assert_eq!(find_record(&block, &[], 2), Ok(&block[42..]));
     for other in [3, 255, 256, 0x101, 0x102, 0x1_0002, 0x8000_0000, u32::MAX] {
         assert_eq!(find_record(&block, &[], other), Err(Refusal::NoRecord));
@@ -139,26 +141,26 @@ fn types_are_compared_whole() {
 
 #[test]
 fn record_is_a_part_of_its_block() {
-    let block = [pci(), pci_x(), express(3, 4)].concat();
+    let block = [pci(), pci_x(), express(7, 4)].concat();
     let found = find_record(&[], &block, 1).unwrap();
     assert_eq!(found.as_ptr_range(), block[23..42].as_ptr_range());
 }
 
 /// Sixteen masks, all different, Device Control at 8 and 9, Link Control at 10 and 11.
 const MASKS: [u32; 16] = [
-    0xFFFF_0000,
+    0xFFFF_0001,
     0x0000_0001,
-    0xFF00_FF00,
+    0xFF00_FF02,
     0x0000_0002,
-    0xF0F0_F0F0,
+    0xF0F0_F0F4,
     0x0000_0004,
     0x0F0F_0F0F,
     0x0000_0008,
-    0xFF00,
+    0xFF10,
     0x0010,
     0xF0F0,
     0x0020,
-    0x00FF_FF00,
+    0x00FF_FF40,
     0x0000_0040,
     0x0FF0_0FF0,
     0x0000_0080,

@@ -108,17 +108,20 @@ fn address_1_2_5_4() {
 fn register_values_1_2_11_10_8_9() {
     let none = one_bridge(0x1F);
     let hot_plug = holding(0x1F, 0x11);
-    let (unsound, sound) = ([0, 3, 0], pci());
+    let sound = pci();
     let (short, full) = ([0; 7], [0; 8]);
     let refused = |table: &Table, session, bridge, block: &[u8], current: &[u32]| {
         let values = table.register_values(session, bridge, block, &[], current);
         values.unwrap_err().number()
     };
-    assert_eq!(refused(&none, STRANGER, ABSENT, &unsound, &short), 1);
-    assert_eq!(refused(&none, STRANGER, BRIDGE, &unsound, &short), 2);
-    assert_eq!(refused(&none, OWNER, BRIDGE, &unsound, &short), 11);
-    assert_eq!(refused(&hot_plug, OWNER, BRIDGE, &unsound, &short), 10);
-    assert_eq!(refused(&hot_plug, OWNER, BRIDGE, &unsound, &full), 8);
+    let senseless = express(0xFFFF_FFF0, 0x6);
+    for unsound in [vec![0, 3, 0], senseless] {
+        assert_eq!(refused(&none, STRANGER, ABSENT, &unsound, &short), 1);
+        assert_eq!(refused(&none, STRANGER, BRIDGE, &unsound, &short), 2);
+        assert_eq!(refused(&none, OWNER, BRIDGE, &unsound, &short), 11);
+        assert_eq!(refused(&hot_plug, OWNER, BRIDGE, &unsound, &short), 10);
+        assert_eq!(refused(&hot_plug, OWNER, BRIDGE, &unsound, &full), 8);
+    }
     assert_eq!(refused(&hot_plug, OWNER, BRIDGE, &sound, &full), 9);
 }
 

@@ -19,16 +19,16 @@ const PCI_X_SETTING: PciXSetting = PciXSetting {
     average_maximum_outstanding_split_transactions: 5,
     total_maximum_outstanding_split_transactions: 6,
 };
-/// A PCI Express setting whose bytes all differ.
+/// A PCI Express setting whose bytes all differ; every pair has a meaning.
 const EXPRESS_SETTING: ExpressSetting = ExpressSetting {
-    uncorrectable_error_mask: masks(0x1312_1110, 0x1716_1514),
-    uncorrectable_error_severity: masks(0x2322_2120, 0x2726_2524),
-    correctable_error_mask: masks(0x3332_3130, 0x3736_3534),
-    advanced_error_capabilities_and_control: masks(0x4342_4140, 0x4746_4544),
-    device_control: masks(0x5150, 0x5554),
-    link_control: masks(0x6160, 0x6564),
-    secondary_uncorrectable_error_severity: masks(0x7372_7170, 0x7776_7574),
-    secondary_uncorrectable_error_mask: masks(0x8382_8180, 0x8786_8584),
+    uncorrectable_error_mask: masks(0x1716_1514, 0x1312_1110),
+    uncorrectable_error_severity: masks(0x2726_2524, 0x2322_2120),
+    correctable_error_mask: masks(0x3736_3534, 0x3332_3130),
+    advanced_error_capabilities_and_control: masks(0x4746_4544, 0x4342_4140),
+    device_control: masks(0x5554, 0x5150),
+    link_control: masks(0x6564, 0x6160),
+    secondary_uncorrectable_error_severity: masks(0x7776_7574, 0x7372_7170),
+    secondary_uncorrectable_error_mask: masks(0x8786_8584, 0x8382_8180),
 };
 /// All three.
 const ALL: Settings = Settings {
@@ -51,22 +51,22 @@ const ALL_BYTES: [u8; 113] = [
     0x06, 0x00, 0x00, 0x00, // total maximum outstanding split transactions
     0x02, 0x44, 0x00, // type 2, length 68
     0x01, 0x00, 0x00, 0x00, // revision
-    0x10, 0x11, 0x12, 0x13, // Uncorrectable Error Mask, AND
-    0x14, 0x15, 0x16, 0x17, // and OR
-    0x20, 0x21, 0x22, 0x23, // Uncorrectable Error Severity, AND
-    0x24, 0x25, 0x26, 0x27, // and OR
-    0x30, 0x31, 0x32, 0x33, // Correctable Error Mask, AND
-    0x34, 0x35, 0x36, 0x37, // and OR
-    0x40, 0x41, 0x42, 0x43, // Advanced Error Capabilities and Control, AND
-    0x44, 0x45, 0x46, 0x47, // and OR
-    0x50, 0x51, 0x00, 0x00, // Device Control, AND
-    0x54, 0x55, 0x00, 0x00, // and OR
-    0x60, 0x61, 0x00, 0x00, // Link Control, AND
-    0x64, 0x65, 0x00, 0x00, // and OR
-    0x70, 0x71, 0x72, 0x73, // Secondary Uncorrectable Error Severity, AND
-    0x74, 0x75, 0x76, 0x77, // and OR
-    0x80, 0x81, 0x82, 0x83, // Secondary Uncorrectable Error Mask, AND
-    0x84, 0x85, 0x86, 0x87, // and OR
+    0x14, 0x15, 0x16, 0x17, // Uncorrectable Error Mask, AND
+    0x10, 0x11, 0x12, 0x13, // and OR
+    0x24, 0x25, 0x26, 0x27, // Uncorrectable Error Severity, AND
+    0x20, 0x21, 0x22, 0x23, // and OR
+    0x34, 0x35, 0x36, 0x37, // Correctable Error Mask, AND
+    0x30, 0x31, 0x32, 0x33, // and OR
+    0x44, 0x45, 0x46, 0x47, // Advanced Error Capabilities and Control, AND
+    0x40, 0x41, 0x42, 0x43, // and OR
+    0x54, 0x55, 0x00, 0x00, // Device Control, AND
+    0x50, 0x51, 0x00, 0x00, // and OR
+    0x64, 0x65, 0x00, 0x00, // Link Control, AND
+    0x60, 0x61, 0x00, 0x00, // and OR
+    0x74, 0x75, 0x76, 0x77, // Secondary Uncorrectable Error Severity, AND
+    0x70, 0x71, 0x72, 0x73, // and OR
+    0x84, 0x85, 0x86, 0x87, // Secondary Uncorrectable Error Mask, AND
+    0x80, 0x81, 0x82, 0x83, // and OR
 ];
 /// The settings of the 42-byte block of document 01.
 const EXAMPLE: Settings = Settings {
@@ -90,7 +90,7 @@ const fn masks(and: u32, or: u32) -> Masks {
 }
 
 /// Writes to a buffer of this length; what was not written, or all when refused, is untouched.
-fn write(settings: &Settings, length: usize) -> Result<Vec<u8>, Refusal> {
+pub fn write(settings: &Settings, length: usize) -> Result<Vec<u8>, Refusal> {
     // What the buffer held before does not show in what was written.
     let [first, second] = [UNTOUCHED, !UNTOUCHED].map(|before| {
         let mut buffer = vec![before; length];
@@ -135,7 +135,8 @@ impl Limited {
     }
 }
 
-/// All numbers that have a limit.
+/// All numbers that have a limit. Beside an AND mask the OR mask is 0, beside an OR mask the AND mask is at its limit; so an OR mask that
+/// is too large has no meaning either.
 const LIMITED: [Limited; 11] = [
     limited(0, 255, |all, value| pci_of(all).cache_line_size = value),
     limited(0, 255, |all, value| pci_of(all).latency_timer = value),
@@ -151,16 +152,16 @@ const LIMITED: [Limited; 11] = [
         pci_x_of(all).total_maximum_outstanding_split_transactions = value
     }),
     limited(2, 65535, |all, value| {
-        express_of(all).device_control.and = value
+        express_of(all).device_control = masks(value, 0)
     }),
     limited(2, 65535, |all, value| {
-        express_of(all).device_control.or = value
+        express_of(all).device_control = masks(65535, value)
     }),
     limited(2, 65535, |all, value| {
-        express_of(all).link_control.and = value
+        express_of(all).link_control = masks(value, 0)
     }),
     limited(2, 65535, |all, value| {
-        express_of(all).link_control.or = value
+        express_of(all).link_control = masks(65535, value)
     }),
 ];
 
@@ -317,12 +318,24 @@ fn each_value_by_itself_in_its_place() {
         express: Some(ExpressSetting::default()),
     };
     let empty = write(&zeros, 113).unwrap();
-    let places = [7, 11, 15, 19, 30, 34, 38, 81, 85, 89, 93];
-    for (number, place) in LIMITED.iter().zip(places) {
+    let places: [(usize, &[u32]); 11] = [
+        (7, &[255]),
+        (11, &[255]),
+        (15, &[1]),
+        (19, &[1]),
+        (30, &[3]),
+        (34, &[7]),
+        (38, &[7]),
+        (81, &[65535, 0]),
+        (81, &[65535, 65535]),
+        (89, &[65535, 0]),
+        (89, &[65535, 65535]),
+    ];
+    for (number, (place, numbers)) in LIMITED.iter().zip(places) {
         let mut settings = zeros;
         (number.set)(&mut settings, number.limit);
         let mut expect = empty.clone();
-        expect[place..place + 4].copy_from_slice(&number.limit.to_le_bytes());
+        expect[place..][..4 * numbers.len()].copy_from_slice(&dwords(numbers));
         assert_eq!(write(&settings, 113), Ok(expect), "{place}");
     }
 }
@@ -342,15 +355,15 @@ fn registers_by_what_was_written() {
     let table = holding(0x1F, 0x11);
     let values = table.register_values(OWNER, BRIDGE, &block, &[], &[0; 8]);
     let expect = [
-        0x1716_1514,
-        0x2726_2524,
-        0x3736_3534,
-        0x4746_4544,
+        0x1312_1110,
+        0x2322_2120,
+        0x3332_3130,
+        0x4342_4140,
         // Device Control keeps bits 5 to 7 and 12 to 14.
-        0x0514,
-        0x6564,
-        0x7776_7574,
-        0x8786_8584,
+        0x0110,
+        0x6160,
+        0x7372_7170,
+        0x8382_8180,
     ];
     assert_eq!(values, Ok(expect));
 }

@@ -2,6 +2,7 @@
 
 mod blocks;
 pub mod granting;
+pub mod masks;
 mod places;
 pub mod registers;
 pub mod roms;
@@ -20,7 +21,7 @@ use crate::settings::Settings;
 /// The name of each comparison, and the comparison: the count of its calls, or a difference in words.
 type Comparison = (&'static str, fn(fn() -> Pair) -> Result<u64, String>);
 
-const COMPARISONS: [Comparison; 28] = [
+const COMPARISONS: [Comparison; 29] = [
     (
         "every offset with every width, and numbers beyond",
         places::offsets_and_widths,
@@ -71,7 +72,11 @@ const COMPARISONS: [Comparison; 28] = [
         blocks::types,
     ),
     (
-        "every bit of every register, set or not in its value and in each mask, among 0s and among 1s",
+        "every bit of every pair of masks as it can be, with all others cleared, kept or set: searched, used and written",
+        masks::pairs,
+    ),
+    (
+        "every bit of every register, 0 or 1, cleared, kept or set, with all others 0 or 1, cleared, kept or set",
         registers::bits,
     ),
     (
@@ -101,7 +106,7 @@ const COMPARISONS: [Comparison; 28] = [
         roms::asked,
     ),
     (
-        "every choice of records in every buffer to 120 bytes, with values at and past every limit",
+        "every choice of records in every buffer to 120 bytes, with values at and past every limit and senseless pairs",
         writer::choices,
     ),
     (
@@ -168,6 +173,17 @@ impl Bench {
             self.first = vec![call];
         }
         Ok(Some(given))
+    }
+
+    /// Makes the call on both, which must give this number.
+    fn expect(&mut self, call: impl Into<Call>, number: u8) -> Result<(), String> {
+        let call = call.into();
+        match self.check(call.clone())? {
+            Some(given) if given.number != number => Err(format!(
+                "both give {given:x?} instead of {number} for {call:x?}"
+            )),
+            _ => Ok(()),
+        }
     }
 
     /// The records of a block as both read them, or a refusal's number.

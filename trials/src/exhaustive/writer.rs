@@ -7,7 +7,7 @@ use crate::call::{Call, WriteRecords};
 use crate::given::Given;
 use crate::random::Random;
 use crate::service::Pair;
-use crate::settings::{self, LIMITS, MOST_BYTES, Settings, TYPES, VALUES};
+use crate::settings::{self, LIMITS, MASKS, MOST_BYTES, Settings, TYPES, VALUES};
 
 /// The choice of all records, with a bit for each type.
 const ALL: u8 = 0b111;
@@ -23,15 +23,21 @@ fn write(settings: Settings, room: usize) -> WriteRecords {
     }
 }
 
-/// Values in range, at every limit, and with one that has a limit one past it.
+/// Values in range, at every limit, with one that has a limit one past it, and with a senseless pair of each register.
 fn value_sets() -> Vec<[u32; VALUES]> {
     let within = settings::values_within(&mut Random::new(1));
     let past = settings::limited().map(|index| {
+        let mut settings = Settings::chosen(ALL, within);
+        settings.set(index, LIMITS[index] + 1);
+        settings.values
+    });
+    let senseless = MASKS.step_by(2).map(|index| {
         let mut values = within;
-        values[index] = LIMITS[index] + 1;
+        [values[index], values[index + 1]] = [0, 1];
         values
     });
-    [within, LIMITS].into_iter().chain(past).collect()
+    let sets = [within, LIMITS].into_iter();
+    sets.chain(past).chain(senseless).collect()
 }
 
 pub fn choices(make: fn() -> Pair) -> Result<u64, String> {
@@ -62,24 +68,23 @@ pub fn flags(make: fn() -> Pair) -> Result<u64, String> {
     Ok(bench.count)
 }
 
-/// Around each limit all records are present; the flipped bits are written in every choice.
+/// Around each limit all records are present, and no pair is senseless; the flipped bits are written in every choice.
 pub fn values(make: fn() -> Pair) -> Result<u64, String> {
     let mut bench = Bench::new(make, Vec::new())?;
     let within = settings::values_within(&mut Random::new(2));
-    let mut check = |choice, index: usize, value| {
-        let mut settings = Settings::chosen(choice, within);
-        settings.values[index] = value;
-        bench.check(write(settings, MOST_BYTES))
-    };
     for index in settings::limited() {
         for value in 0..=LIMITS[index] + 2 {
-            check(ALL, index, value)?;
+            let mut settings = Settings::chosen(ALL, within);
+            settings.set(index, value);
+            bench.check(write(settings, MOST_BYTES))?;
         }
     }
-    for (index, value) in within.into_iter().enumerate() {
+    for index in 0..VALUES {
         for bit in 0..u32::BITS {
             for choice in 0..=ALL {
-                check(choice, index, value ^ (1 << bit))?;
+                let mut settings = Settings::chosen(choice, within);
+                settings.values[index] ^= 1 << bit;
+                bench.check(write(settings, MOST_BYTES))?;
             }
         }
     }

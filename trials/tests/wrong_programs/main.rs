@@ -9,6 +9,7 @@ mod misread;
 mod misread_starts;
 mod narrowed;
 mod roms;
+mod senseless;
 mod sessions;
 mod sizes;
 mod sums;

@@ -1,11 +1,12 @@
-//! Writers of records that misread document 02, g. Each is the right one with one rule changed.
+//! Writers of records that misread document 02, g. Each is the right one with one rule changed; senseless.rs has those that misread its h.
 
+use trials::blocks;
 use trials::buffer::GUARD;
 use trials::call::{Call, WriteRecords};
-use trials::exhaustive::writer;
+use trials::exhaustive::{masks, writer};
 use trials::given::{Given, Handed};
 use trials::service::{Pair, Service};
-use trials::settings::{LIMITS, MOST_BYTES, OF_TYPE, Settings, TYPES};
+use trials::settings::{LIMITS, MASKS, MOST_BYTES, OF_TYPE, Settings, TYPES};
 
 use crate::wrong::{Wrong, found, pair, tried};
 
@@ -13,44 +14,50 @@ use crate::wrong::{Wrong, found, pair, tried};
 const BYTES: [usize; TYPES] = [23, 19, 71];
 const SHORTEST: usize = BYTES[1];
 
-struct Rules {
+pub struct Rules {
     /// The types, as they are laid down.
-    order: [usize; TYPES],
+    pub order: [usize; TYPES],
     /// Whether a record is present, by its flag.
-    present: fn(u8) -> bool,
+    pub present: fn(u8) -> bool,
     /// Whether its values count, by its flag.
-    counts: fn(u8) -> bool,
+    pub counts: fn(u8) -> bool,
     /// Whether a value is in range; values are counted over all types.
-    in_range: fn(usize, u32) -> bool,
-    revision: u32,
+    pub in_range: fn(usize, u32) -> bool,
+    /// Whether its pairs of masks count, by its flag.
+    pub pairs_count: fn(u8) -> bool,
+    /// Whether the pair of a register is senseless.
+    pub senseless: fn(usize, [u32; 2]) -> bool,
+    pub revision: u32,
     /// The length field of so many bytes.
-    length: fn(usize) -> [u8; 2],
-    number: fn(u32) -> [u8; 4],
+    pub length: fn(usize) -> [u8; 2],
+    pub number: fn(u32) -> [u8; 4],
     /// The numbers of a type in the order in which they are laid down.
-    numbers: fn(usize, Vec<u32>) -> Vec<u32>,
+    pub numbers: fn(usize, Vec<u32>) -> Vec<u32>,
     /// Whether records of so many bytes have room in a buffer of so many.
-    room: fn(usize, usize) -> bool,
-    /// The number, by whether all values are in range and there is room.
-    number_given: fn(bool, bool) -> u8,
+    pub room: fn(usize, usize) -> bool,
+    /// The number, by whether all values are in range, no pair is senseless, and there is room.
+    pub number_given: fn(bool, bool, bool) -> u8,
     /// What is handed back of fields that are written.
-    handed: fn(&[Vec<u8>]) -> usize,
+    pub handed: fn(&[Vec<u8>]) -> usize,
     /// What is handed back of fields that are refused.
-    handed_refused: fn(&[Vec<u8>]) -> usize,
-    put: fn(&mut [u8], &[u8]),
-    put_refused: fn(&mut [u8], &[u8]),
+    pub handed_refused: fn(&[Vec<u8>]) -> usize,
+    pub put: fn(&mut [u8], &[u8]),
+    pub put_refused: fn(&mut [u8], &[u8]),
 }
 
-const RIGHT: Rules = Rules {
+pub const RIGHT: Rules = Rules {
     order: [0, 1, 2],
     present: |flag| flag != 0,
     counts: |flag| flag != 0,
     in_range: |index, value| value <= LIMITS[index],
+    pairs_count: |flag| flag != 0,
+    senseless: |_, pair| blocks::senseless_bits(pair) != 0,
     revision: 1,
     length: |bytes| (bytes as u16).to_le_bytes(),
     number: u32::to_le_bytes,
     numbers: |_, numbers| numbers,
     room: |bytes, buffer| bytes <= buffer,
-    number_given: |in_range, room| match (in_range, room) {
+    number_given: |in_range, meaningful, room| match (in_range && meaningful, room) {
         (false, _) => 14,
         (true, false) => 15,
         (true, true) => 0,
@@ -96,10 +103,18 @@ impl Rules {
         })
     }
 
+    fn meaningful(&self, settings: &Settings) -> bool {
+        let (pairs, _) = settings.values[MASKS].as_chunks();
+        let mut senseless = pairs.iter().enumerate();
+        let senseless = senseless.any(|(register, pair)| (self.senseless)(register, *pair));
+        !senseless || !(self.pairs_count)(settings.flags[2])
+    }
+
     fn write(&self, settings: &Settings, buffer: &mut [u8]) -> (u8, usize) {
         let fields = self.fields(settings);
         let room = (self.room)(bytes_of(&fields), buffer.len());
-        let number = (self.number_given)(self.in_ranges(settings), room);
+        let (in_range, meaningful) = (self.in_ranges(settings), self.meaningful(settings));
+        let number = (self.number_given)(in_range, meaningful, room);
         let (put, handed) = match number {
             0 => (self.put, self.handed),
             _ => (self.put_refused, self.handed_refused),
@@ -110,7 +125,7 @@ impl Rules {
 }
 
 /// The reference, with a writer by these rules.
-fn written(wrong: &mut Wrong, call: &mut Call, rules: &Rules) -> Given {
+pub fn written(wrong: &mut Wrong, call: &mut Call, rules: &Rules) -> Given {
     let Call::WriteRecords(write) = call else {
         return wrong.reference.call(call);
     };
@@ -130,10 +145,10 @@ fn found_write(make: fn() -> Pair) -> (WriteRecords, usize) {
     }
 }
 
-type Comparison = fn(fn() -> Pair) -> Result<u64, String>;
+pub type Comparison = fn(fn() -> Pair) -> Result<u64, String>;
 
 /// A call with a buffer of so many bytes shows wrong rules, and an exhaustive comparison does. Gives its settings.
-fn found_in(buffer: usize, comparison: Comparison, make: fn() -> Pair) -> Settings {
+pub fn found_in(buffer: usize, comparison: Comparison, make: fn() -> Pair) -> Settings {
     let (write, bytes) = found_write(make);
     assert_eq!(bytes, buffer, "{write:x?}");
     assert!(comparison(make).is_err());
@@ -154,6 +169,7 @@ macro_rules! wrongly {
         }
     };
 }
+pub(crate) use wrongly;
 
 #[test]
 fn the_rules_hold_of_every_write() {
@@ -166,6 +182,7 @@ fn the_rules_hold_of_every_write() {
         writer::again,
         writer::orders,
         writer::changed_bytes,
+        masks::pairs,
     ] {
         comparison(right).unwrap();
     }
@@ -185,10 +202,12 @@ fn type_2_before_type_1() {
 
 #[test]
 fn refusal_15_before_14() {
-    let early = wrongly!(number_given: |in_range, room| match (in_range, room) {
-        (_, false) => 15,
-        (false, true) => 14,
-        (true, true) => 0,
+    let early = wrongly!(number_given: |in_range, meaningful, room| {
+        match (in_range && meaningful, room) {
+            (_, false) => 15,
+            (false, true) => 14,
+            (true, true) => 0,
+        }
     });
     found_in(0, writer::choices, early);
 }
@@ -280,14 +299,22 @@ fn absent_records_laid_down() {
 /// A flag of 2 shows it.
 #[test]
 fn flag_1_alone_for_present() {
-    let one = wrongly!(present: |flag| flag == 1, counts: |flag| flag == 1);
+    let one = wrongly!(
+        present: |flag| flag == 1,
+        counts: |flag| flag == 1,
+        pairs_count: |flag| flag == 1
+    );
     let settings = found_in(0, writer::flags, one);
     assert_eq!(settings.flags.iter().sum::<u8>(), 2);
 }
 
 #[test]
 fn bit_0_of_a_flag_for_present() {
-    let odd = wrongly!(present: |flag| flag & 1 == 1, counts: |flag| flag & 1 == 1);
+    let odd = wrongly!(
+        present: |flag| flag & 1 == 1,
+        counts: |flag| flag & 1 == 1,
+        pairs_count: |flag| flag & 1 == 1
+    );
     let settings = found_in(0, writer::flags, odd);
     assert_eq!(settings.flags.iter().sum::<u8>(), 2);
 }
@@ -431,6 +458,9 @@ macro_rules! limits_off {
 
 /// All values that have a limit.
 const LIMITS_OFF: [LimitOff; 11] = limits_off!(8 9 10 11 16 17 18 19 20 21 22);
+/// The OR masks of Device Control and Link Control. One that is too large beside an AND mask that is not is senseless, so that no call
+/// shows their own limit too high.
+const OR_MASKS: [usize; 2] = [9, 11];
 
 #[test]
 fn every_limit_one_too_low() {
@@ -443,6 +473,10 @@ fn every_limit_one_too_low() {
 #[test]
 fn every_limit_one_too_high() {
     for (index, _, high) in LIMITS_OFF {
+        if OR_MASKS.contains(&index) {
+            writer::choices(high).unwrap();
+            continue;
+        }
         let settings = found_in(0, writer::choices, high);
         assert_eq!(settings.values[index], LIMITS[index] + 1);
     }
@@ -450,8 +484,11 @@ fn every_limit_one_too_high() {
 
 #[test]
 fn device_control_and_link_control_without_limit() {
-    let without = wrongly!(in_range: |index, value| index > 6 || value <= LIMITS[index]);
-    found_in(0, writer::choices, without);
+    let without = wrongly!(in_range: |index, value| {
+        MASKS.contains(&index) || value <= LIMITS[index]
+    });
+    let settings = found_in(0, writer::choices, without);
+    assert_eq!(settings.flags, [0, 0, 1]);
 }
 
 /// Two programs with the same wrong rules.

@@ -52,7 +52,7 @@ pub fn pair(rule: Rule) -> Pair {
 }
 
 /// The reference, asked another call; what it leaves in the buffer that it may write in is handed on.
-pub fn instead(wrong: &mut Wrong, call: &mut Call, change: fn(&mut Call)) -> Given {
+pub fn instead(wrong: &mut Wrong, call: &mut Call, change: impl Fn(&mut Call)) -> Given {
     let mut changed = call.clone();
     change(&mut changed);
     let given = wrong.reference.call(&mut changed);

@@ -16,16 +16,18 @@ returns c =
 
 returns-2 : tie.Need-returns-2
 returns-2 c =
-    let m = c .before .before in
+    let n = c .before .before in
+    let m = n .before in
     let a = m .before .before .before .before .before .before .args in
     let four : a .k ≡ 4 = omega (arith, c .before .if2 .taken) in
-    simp (c .sizes-kept .ensures, eq-eqb (a .k) 4 four, m .before .read32 .ensures, m .read322 .ensures)
+    simp (c .sizes-kept .ensures, n .and-or .ensures, eq-eqb (a .k) 4 four, m .before .read32 .ensures, m .read322 .ensures)
 
 returns-3 : tie.Need-returns-3
 returns-3 c =
-    let m = c .before in
+    let n = c .before in
+    let m = n .before in
     let a = m .before .before .before .before .before .before .args in
-    rw (m .before .read32 .ensures, m .read322 .ensures)
+    rw (n .and-or .ensures, m .before .read32 .ensures, m .read322 .ensures)
     (sym (changes (a .aer) (eqb (a .k) 4) (eqb (a .k) 5) _ _ _ (m .before .before .if1 .left) (ne-eqb (a .k) 4 (c .if2 .left))))
 
 pub register-spec : {M : Type 1} → statement M
@@ -46,6 +48,7 @@ register-spec =
     (λ c. search needs)
     (λ c. search needs)
     (λ c. search needs)
+    (λ c κs. search needs)
     (λ c κs. search needs)
     (λ c κs. search needs)
     returns-2

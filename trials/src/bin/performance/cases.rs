@@ -208,6 +208,8 @@ fn locate(run: &mut impl Runner, name: &'static str, owner: u8, bridge: u8) {
 fn records(run: &mut impl Runner) {
     let (short, long) = (example_block(), long_block(81));
     let cut = &long[..long.len() - 1];
+    let mut senseless = type_2();
+    senseless[67] |= 1; // in the last OR mask, not in its AND mask
     find_record(run, "record search, 42 bytes", &short, 1);
     find_record(run, "record search, 71 bytes", &type_2(), 2);
     find_record(run, "record search, 1,004 bytes in 84 fields", &long, 2);
@@ -219,6 +221,8 @@ fn records(run: &mut impl Runner) {
         cut,
         2,
     );
+    let last_pair = "record search, 71 bytes, the last pair senseless: refusal 8";
+    find_record(run, last_pair, &senseless, 2);
     find_record(
         run,
         "record search, 42 bytes, no such record: refusal 9",

@@ -109,17 +109,17 @@ pub fn example_block() -> Vec<u8> {
     .concat()
 }
 
-/// A type 2 record, 71 bytes.
+/// A type 2 record, 71 bytes. Some bits are cleared, some kept and some set.
 pub fn type_2() -> Vec<u8> {
     let pairs = [
-        [0xFFFF_FFF0, 6],
+        [0xFFFF_FFF6, 6],
         [0xFFFF, 0x10],
         [0xFFF, 0],
         [0xFF, 1],
-        [0xFFF0, 6],
-        [0xFFF0, 6],
+        [0xFFF6, 6],
+        [0xFFF6, 6],
         [0xFFFF_FFFF, 0],
-        [0xFFFF_FFF0, 6],
+        [0xFFFF_FFF6, 6],
     ];
     numbers_field(2, 1, pairs.as_flattened())
 }

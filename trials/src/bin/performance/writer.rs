@@ -2,20 +2,20 @@
 
 use slipwattle::sys;
 use trials::service::{Boundary, Service, as_lent, as_records};
-use trials::settings::{MOST_BYTES, OF_TYPE, Settings};
+use trials::settings::{MASKS, MOST_BYTES, Settings};
 
 use crate::cases::Runner;
 use crate::inputs::{example_block, type_2};
 
-/// Where Link Control's OR mask stands among the values.
-const LAST_LIMITED: usize = OF_TYPE[2].start + 11;
+/// Where Link Control's AND mask stands among the values.
+const LAST_AND_LIMITED: usize = MASKS.start + 10;
 
 pub fn writes(run: &mut impl Runner) {
     let three = settings();
     let mut one = three;
     one.flags = [1, 0, 0];
     let mut beyond = three;
-    beyond.values[LAST_LIMITED] = 0x1_0000;
+    beyond.values[LAST_AND_LIMITED] |= 0x1_0000;
     write(run, "record writer, 1 record, 23 bytes", &one, MOST_BYTES);
     write(
         run,
@@ -23,7 +23,7 @@ pub fn writes(run: &mut impl Runner) {
         &three,
         MOST_BYTES,
     );
-    let too_large = "record writer, 3 records, the last mask too large: refusal 14";
+    let too_large = "record writer, 3 records, a mask too large: refusal 14";
     write(run, too_large, &beyond, MOST_BYTES);
     let too_short = "record writer, 3 records, a buffer of 112 bytes: refusal 15";
     write(run, too_short, &three, MOST_BYTES - 1);
