@@ -1,8 +1,8 @@
-//! The masks for a register: document 01's formula, and which pairs have a meaning (document 02, h).
+//! The masks for a register: source document 002, "PCI Express Setting Record (Type 2)", and document 02, h.
 
 use crate::limits::MAX_WORD;
 
-/// The registers of the PCI Express setting record, each with its masks.
+/// The registers of the PCI Express setting record, each with its pair of masks.
 pub(crate) const REGISTERS: usize = 8;
 
 /// The masks for a register.
@@ -15,16 +15,16 @@ pub struct Masks {
 }
 
 impl Masks {
-    /// New = (current AND mask) OR mask, bit by bit, of any pair.
+    /// The formula of document 01, "Record blocks and register values", for any pair, also one without a meaning.
     #[inline]
     pub fn new_value(self, current: u32) -> u32 {
         (current & self.and) | self.or
     }
 
-    /// Whether no bit is clear in the AND mask and set in the OR mask.
+    /// Whether each bit is one of document 002's three cases (left as it is, made 0, made 1): none is clear in AND and set in OR.
     #[inline]
-    pub(crate) fn meaningful(self) -> bool {
-        !self.and & self.or == 0
+    pub(crate) fn has_meaning(self) -> bool {
+        self.or & !self.and == 0
     }
 
     /// Whether the masks are for a 16-bit register.

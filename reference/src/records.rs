@@ -88,16 +88,16 @@ fn take_field(block: &[u8]) -> Option<(Field<'_>, &[u8])> {
     if u32::from_le_bytes(*revision) != REVISION {
         return Some((Field::Skipped, after));
     }
-    if !allowed(tag, numbers) {
+    if !within_limits(tag, numbers) {
         return None;
     }
     let field = &block[..FIELD_HEADER + length];
     Some((Field::Record(tag, Record { field, numbers }), after))
 }
 
-/// Whether the numbers after revision 1 are as many as the type has, none is too large, and every pair of masks has a meaning.
+/// Whether the numbers after revision 1 are as many as the type has, none is too large and, document 02, h, each pair has a meaning.
 #[inline]
-fn allowed(tag: u8, numbers: &[Number]) -> bool {
+fn within_limits(tag: u8, numbers: &[Number]) -> bool {
     match (tag, numbers) {
         (PCI, [cache_line, latency, serr, perr]) => {
             at_most(MAX_BYTE, [cache_line, latency]) && at_most(MAX_ENABLE, [serr, perr])
@@ -107,13 +107,13 @@ fn allowed(tag: u8, numbers: &[Number]) -> bool {
                 && at_most(MAX_SPLITS, [average_splits, total_splits])
         }
         (PCI_EXPRESS, [_, _, _, _, _, _, _, _, words @ .., _, _, _, _]) if words.len() == 4 => {
-            at_most(MAX_WORD, words) && pairs(numbers).all(Masks::meaningful)
+            at_most(MAX_WORD, words) && pairs(numbers).all(Masks::has_meaning)
         }
         _ => false,
     }
 }
 
-/// The masks of a PCI Express setting record, by its numbers after the revision.
+/// The pairs of masks of a PCI Express setting record, by the numbers after its revision.
 #[inline]
 pub(crate) fn pairs(numbers: &[Number]) -> impl Iterator<Item = Masks> {
     let (pairs, _) = numbers.as_chunks();

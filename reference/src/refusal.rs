@@ -30,7 +30,7 @@ pub enum Refusal {
     Rom = 12,
     /// The chain of images has none with this vendor, device and code type.
     NoImage = 13,
-    /// A value of a record to be written is out of range, or its masks have no meaning.
+    /// A value of a record to be written is out of range, or a pair of its masks has no meaning.
     RecordValue = 14,
     /// The buffer is too short for the records to be written.
     ShortBuffer = 15,

@@ -49,7 +49,7 @@ pub struct PciXSetting {
     pub total_maximum_outstanding_split_transactions: u32,
 }
 
-/// A PCI Express setting record, table 6-9.
+/// A PCI Express setting record, table 6-9; each pair must have a meaning, document 02, h.
 #[derive(Clone, Copy, Debug, Default, PartialEq, Eq)]
 pub struct ExpressSetting {
     /// For the Uncorrectable Error Mask Register.
@@ -73,7 +73,7 @@ pub struct ExpressSetting {
 /// Writes the records, which it takes by value, at the buffer's start, by rising type, and gives their length, or refusal 14 or 15.
 #[inline(never)]
 pub fn write_records(settings: Settings, buffer: &mut [u8]) -> Result<usize, Refusal> {
-    if !settings.allowed() {
+    if !settings.within_limits() {
         return Err(Refusal::RecordValue);
     }
     let length = settings.length();
@@ -135,11 +135,14 @@ fn read_numbers<const N: usize>(block: &[u8], tag: u8) -> Result<Option<[u32; N]
 }
 
 impl Settings {
-    /// Whether no value of a present record is too large, and every pair of masks has a meaning.
-    fn allowed(&self) -> bool {
+    /// Whether no value of a present record is too large and each pair of masks has a meaning.
+    fn within_limits(&self) -> bool {
         self.pci.as_ref().is_none_or(PciSetting::within_limits)
             && self.pci_x.as_ref().is_none_or(PciXSetting::within_limits)
-            && self.express.as_ref().is_none_or(ExpressSetting::allowed)
+            && self
+                .express
+                .as_ref()
+                .is_none_or(ExpressSetting::within_limits)
     }
 
     /// Bytes of the present records.
@@ -213,14 +216,14 @@ impl PciXSetting {
 }
 
 impl ExpressSetting {
-    /// Whether no value is too large and every pair has a meaning.
-    fn allowed(&self) -> bool {
+    /// Whether no value is too large and each pair has a meaning.
+    fn within_limits(&self) -> bool {
         self.device_control.within_word()
             && self.link_control.within_word()
-            && self.pairs().into_iter().all(Masks::meaningful)
+            && self.pairs().into_iter().all(Masks::has_meaning)
     }
 
-    /// The pairs in the order of table 6-9.
+    /// The pairs of masks, in the order of table 6-9.
     fn pairs(&self) -> [Masks; REGISTERS] {
         [
             self.uncorrectable_error_mask,
