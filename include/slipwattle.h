@@ -357,8 +357,8 @@ typedef struct {
  *    Capabilities and Control, Device Control, Link Control, Secondary Uncorrectable Error Severity and Mask. current_length counts
  *    numbers, not bytes.
  * New = (current AND mask) OR mask. In Device Control bits 5 to 7 and 12 to 14 (Max_Payload_Size, Max_Read_Request_Size) keep their
- * current value whatever the record says. Where AER (control bit 3) is held all but Device Control and Link Control stay. Nothing is
- * written anywhere; the table stays as it is. */
+ * current value whatever the record says. Where AER (control bit 3) is held all but Device Control and Link Control stay. A pair that has
+ * no meaning (slipwattle_masks) is refused, 8, also where it would not be used. Nothing is written anywhere; the table stays as it is. */
 slipwattle_values slipwattle_register_values(const slipwattle_table *table, slipwattle_session session, slipwattle_bridge bridge,
                                              const uint8_t *slot, size_t slot_length, const uint8_t *bridge_block,
                                              size_t bridge_block_length, const uint32_t *current, size_t current_length);

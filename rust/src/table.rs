@@ -231,7 +231,8 @@ impl Table {
     ///
     /// A new value is (current AND mask) OR mask. In Device Control bits 5 to 7 and 12 to 14 (Max_Payload_Size, Max_Read_Request_Size)
     /// keep their current value whatever the record says. Where the bridge holds [`CONTROL_AER`](crate::osc::CONTROL_AER) all but Device
-    /// Control and Link Control stay.
+    /// Control and Link Control stay. A pair of [`Masks`](crate::Masks) that has no meaning makes the block unsound, also where it would
+    /// not be used.
     ///
     /// # Errors
     ///

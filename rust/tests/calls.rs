@@ -88,7 +88,7 @@ fn same_pairs(masks: [u32; 2]) -> Vec<u8> {
     record
 }
 
-/// A type 2 record with these masks for one register, which keeps the others.
+/// A type 2 record with these masks for one register, which keeps the low 16 bits of the others.
 fn one_pair(k: usize, masks: [u32; 2]) -> Vec<u8> {
     let mut record = same_pairs([0xFFFF, 0]);
     record[7 + 8 * k..][..8].copy_from_slice(masks.map(u32::to_le_bytes).as_flattened());

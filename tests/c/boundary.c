@@ -732,7 +732,7 @@ static unsigned refusal_of_pair(size_t j, size_t k) {
     return k == 4 || k == 5 ? PAIRS[j].control : PAIRS[j].others;
 }
 
-/* The example's records, and a type 2 record with pair j for register k, where the other registers are kept. */
+/* The example's records, and a type 2 record with pair j for register k, where the low 16 bits of the other registers are kept. */
 static void write_with_pair(uint8_t block[42 + 71], size_t j, size_t k) {
     memcpy(block, EXAMPLE, 42);
     write_pairs(block + 42, 0xFFFF, 0);
@@ -1039,7 +1039,7 @@ static void judges_masks_last(const slipwattle_table *t) {
     CHECK(slipwattle_register_values(t, session(1), bridge(0), settings, 71, NULL, 0, current, 8).number == 8);
 }
 
-/* Register k by a pair of its own, where the other registers are kept; bridge 0 holds no AER. */
+/* Register k by a pair of its own, where the low 16 bits of the others are kept; bridge 0 holds no AER. */
 static bool computes(const slipwattle_table *t, size_t k, slipwattle_masks pair, uint32_t value, uint32_t expected) {
     uint32_t current[SLIPWATTLE_REGISTERS] = {1, 2, 3, 4, 5, 6, 7, 8};
     uint8_t settings[71];

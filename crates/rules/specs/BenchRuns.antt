@@ -1,7 +1,8 @@
--- Example runs: starts, a run of two sessions on one table, record searches, written records, images of a ROM, register values, grants and places.
+-- Example runs: starts, a run of two sessions on one table, record searches, pairs of masks, written records, images of a ROM, register values, grants and places.
 use Prim.Native.Nat.{ℕ, zero, suc, _-_, _/_, _%_}
 use mathlib.Core.Bool.{true, false, cond}
 use mathlib.Core.List.{List, [], _∷_, _++_}
+use mathlib.Core.Option.{none, some}
 use lib.Dec.{eqb, leb}
 use lib.ListN.{take, drop, set, replicate}
 use Rattle.rules.specs.Limits.{maxRom}
@@ -11,8 +12,9 @@ use Rattle.rules.specs.Osc.{uuidBytes}
 use Rattle.rules.specs.Records.{findRecord}
 use Rattle.rules.specs.Rom.{findImage}
 use Rattle.rules.specs.Writer.{presentIn, writeRecords, bufferAfter, readSettings, placeAmong, onlyRising}
-use Rattle.rules.specs.Calls.{osc, reset, report, address, registerValues, Call, on, locate, nothing, reported, addressed, located, values, outcome, outcomes}
-use Rattle.rules.specs.BenchSheet.{Line, _gives_, AllHold, oscOn, samePairs, registersOn, newRegisters}
+use Rattle.rules.specs.Calls.{osc, reset, report, address, registerValues, Call, on, locate, nothing, reported, addressed, located, values, Outcome, outcome, outcomes}
+use Rattle.rules.specs.Claims.{acpiBit}
+use Rattle.rules.specs.BenchSheet.{Line, _gives_, AllHold, bridgeWith, outcomeOn, oscOn, samePairs, registersOn, newRegisters}
 use Rattle.rules.specs.declared.Bridge.{Bridge}
 use Rattle.rules.specs.declared.BridgeNumber.{BridgeNumber}
 use Rattle.rules.specs.declared.BridgeRow.{BridgeRow}
@@ -245,11 +247,18 @@ searches =
     ∷ (findRecord [] (0x03 ∷ 0xFE ∷ 0x0F ∷ replicate 4094 0) 0 gives found 8 0 0)
     ∷ []
 
--- document 02, h: type 2 records with one senseless pair, and beside them those that have none
+-- ---- pairs of masks, document 02, h
+
 abbrev pub masks : List Line
 masks =
+    -- a bit that is kept, 1 and 0; cleared; set; the fourth case
+    (acpiBit true false true gives some true)
+    ∷ (acpiBit true false false gives some false)
+    ∷ (acpiBit false false true gives some false)
+    ∷ (acpiBit true true false gives some true)
+    ∷ (acpiBit false true true gives none)
     -- bits set, cleared and kept; OR 9 in a pair at a time, where bit 0 or bit 3 is clear in AND
-    (findRecord [] type2 2 gives found 0 0 71)
+    ∷ (findRecord [] type2 2 gives found 0 0 71)
     ∷ (findRecord [] (set type2 11 9) 2 gives found 8 0 0)
     ∷ (findRecord [] (set type2 19 9) 2 gives found 8 0 0)
     ∷ (findRecord [] (set type2 27 9) 2 gives found 8 0 0)
@@ -258,7 +267,7 @@ masks =
     ∷ (findRecord [] (set type2 51 9) 2 gives found 8 0 0)
     ∷ (findRecord [] (set type2 59 9) 2 gives found 8 0 0)
     ∷ (findRecord [] (set type2 67 9) 2 gives found 8 0 0)
-    -- bit 31 in the last pair: kept, set, cleared, senseless
+    -- bit 31 in the last pair, kept above: set, cleared, senseless
     ∷ (findRecord [] (set type2 70 0x80) 2 gives found 0 0 71)
     ∷ (findRecord [] (set type2 66 0x7F) 2 gives found 0 0 71)
     ∷ (findRecord [] (set (set type2 66 0x7F) 70 0x80) 2 gives found 8 0 0)
@@ -267,14 +276,20 @@ masks =
     ∷ (findRecord [] (set (set (set (set type2 63 0) 64 0) 65 0) 66 0) 2 gives found 8 0 0)
     -- the starred pair, AND 0xFFFFFFF0 and OR 6
     ∷ (findRecord [] (set (set type2 7 0xF0) 11 6) 2 gives found 8 0 0)
-    -- the search for another type, in front of it and behind it; the same record with revision 2
+    -- the search for another type, in front of it and behind it, and behind a record without such a pair
     ∷ (findRecord [] (types01 ++ set type2 67 9) 0 gives found 8 0 0)
     ∷ (findRecord (set type2 67 9 ++ types01) [] 1 gives found 8 0 0)
     ∷ (findRecord [] (types01 ++ set type2 67 9) 3 gives found 8 0 0)
+    ∷ (findRecord [] (type2 ++ types01) 1 gives found 0 94 19)
+    -- the same record with revisions 2, 0, 3 and 257
     ∷ (findRecord [] (set (set type2 67 9) 3 2) 2 gives found 9 0 0)
     ∷ (findRecord [] (types01 ++ set (set type2 67 9) 3 2) 0 gives found 0 0 23)
-    -- tag 3 is skipped whatever its value; the slot's block alone decides
+    ∷ (findRecord [] (set (set type2 67 9) 3 0) 2 gives found 9 0 0)
+    ∷ (findRecord [] (set (set type2 67 9) 3 3) 2 gives found 9 0 0)
+    ∷ (findRecord [] (set (set type2 67 9) 4 1) 2 gives found 9 0 0)
+    -- tags 3 and 4 are skipped whatever their value; the slot's block alone decides
     ∷ (findRecord [] (set (set type2 67 9) 0 3) 0 gives found 9 0 0)
+    ∷ (findRecord [] (set (set type2 67 9) 0 4) 2 gives found 9 0 0)
     ∷ (findRecord type2 (set type2 67 9) 2 gives found 0 0 71)
     ∷ (findRecord (set type2 67 9) type2 2 gives found 8 0 0)
     ∷ []
@@ -459,9 +474,10 @@ writes =
     ∷ (numberOf (oneOther 1 0 0 255 4 65536) gives 0)
     ∷ (numberOf (oneOther 0 1 0 256 3 65536) gives 0)
     ∷ (numberOf (oneOther 0 0 1 256 4 65535) gives 0)
-    -- numbers above two bytes; 0, and an average above the total
+    -- numbers above two bytes; 0; PERR without SERR; an average above the total
     ∷ (numberOf (pciAlone 0x80000000 255 1 1) gives 14)
     ∷ (numberOf (pciAlone 0 0 0 0) gives 0)
+    ∷ (numberOf (pciAlone 255 255 0 1) gives 0)
     ∷ (numberOf (pciXAlone 0 7 0) gives 0)
     -- document 02, h: no senseless pair; each of the eight; absent; no room: 14 first
     ∷ (numberOf (senselessAt 1 8) gives 0)
@@ -564,6 +580,14 @@ romSizes = (leb 16777216 maxRom gives true) ∷ (leb 16777217 maxRom gives false
 
 -- ---- register values beyond the sheet, document 02, f: AER held; every bit set by the record; every bit cleared by it
 
+-- of a bridge that holds these bits
+abbrev pub valuesOn : (held : ℕ) → (slot block current : List ℕ) → Outcome
+valuesOn held slot block current = outcomeOn (bridgeWith 0x1F held) (registerValues slot block current)
+
+-- a type 2 record whose last pair is senseless
+abbrev pub senseless : List ℕ
+senseless = set type2 67 9
+
 abbrev pub registers : List Line
 registers =
     (registersOn 0x19 0x2810 0x5020 0x5020
@@ -576,6 +600,12 @@ registers =
     gives newRegisters 0x2810 0x0810 0x0010 (0x0810 ∷ 0x0810 ∷ 0x0810 ∷ 0x0810 ∷ 0x2810 ∷ 0x0810 ∷ 0x0810 ∷ 0x0810 ∷ []))
     ∷ (registersOn 0x11 0x2810 0x0010 0x0810 gives outcome 8 (values (replicate 8 0)) ([] ∷ samePairs 0x0010 0x0810 ∷ replicate 8 0x2810 ∷ []))
     ∷ (registersOn 0x19 0x2810 0x0010 0x0810 gives outcome 8 (values (replicate 8 0)) ([] ∷ samePairs 0x0010 0x0810 ∷ replicate 8 0x2810 ∷ []))
+    -- 10 and 11 come before 8, and 8 before 9; the slot's block alone decides
+    ∷ (valuesOn 0x11 [] senseless (replicate 7 0) gives outcome 10 (values (replicate 8 0)) ([] ∷ senseless ∷ replicate 7 0 ∷ []))
+    ∷ (valuesOn 0x1E [] senseless (replicate 8 0) gives outcome 11 (values (replicate 8 0)) ([] ∷ senseless ∷ replicate 8 0 ∷ []))
+    ∷ (valuesOn 0x11 [] (take 70 type2) (replicate 8 0) gives outcome 8 (values (replicate 8 0)) ([] ∷ take 70 type2 ∷ replicate 8 0 ∷ []))
+    ∷ (valuesOn 0x11 senseless type2 (replicate 8 0) gives outcome 8 (values (replicate 8 0)) (senseless ∷ type2 ∷ replicate 8 0 ∷ []))
+    ∷ (valuesOn 0x11 type2 senseless (replicate 8 0) gives outcome 0 (values (1 ∷ 2 ∷ 3 ∷ 4 ∷ 6 ∷ 2 ∷ 7 ∷ 8 ∷ [])) (type2 ∷ senseless ∷ replicate 8 0 ∷ []))
     ∷ []
 
 -- ---- grants beyond the sheet: a held bit that is not permitted, and bit 3 that is not; a bit above 4; bits 0 to 2 that are not permitted, with status and support of all bits;

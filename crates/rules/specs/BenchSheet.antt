@@ -53,7 +53,7 @@ pairs (suc n) and or = le32 and ++ le32 or ++ pairs n and or
 abbrev pub samePairs : (and or : ℕ) → List ℕ
 samePairs and or = 2 ∷ 68 ∷ 0 ∷ 1 ∷ 0 ∷ 0 ∷ 0 ∷ pairs 8 and or
 
--- a block that is one type 2 record with this pair for the first register; every bit of the others is kept
+-- a block that is one type 2 record with this pair for the first register; the low 16 bits of the others are kept
 abbrev pub firstPair : (and or : ℕ) → List ℕ
 firstPair and or = 2 ∷ 68 ∷ 0 ∷ 1 ∷ 0 ∷ 0 ∷ 0 ∷ pairs 1 and or ++ pairs 7 0xFFFF 0
 
@@ -65,7 +65,7 @@ registersOn held value and or = outcomeOn (bridgeWith 0x1F held) (registerValues
 abbrev pub newRegisters : (value and or : ℕ) → List ℕ → Outcome
 newRegisters value and or new = outcome 0 (values new) ([] ∷ samePairs and or ∷ replicate 8 value ∷ [])
 
--- the starred lines, in order; then the value that document 02, f, works out
+-- the starred lines, in order, behind the AND/OR line what document 02, h, refuses; then the value that f works out
 abbrev pub sheet : List Line
 sheet =
     -- query, DWORDs 01000000 1F000000 1F000000, P 0x1F, H 0: answer 00000000 1F000000 1F000000, H 0

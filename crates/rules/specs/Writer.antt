@@ -68,7 +68,7 @@ abbrev pub laidDown : List Setting → List ℕ
 laidDown [] = []
 laidDown (r ∷ l) = recordBytes r ++ laidDown l
 
--- the values of a record break no "range in document 01"
+-- the values of a record break no "range in document 01", and no pair is senseless (document 02, h)
 abbrev pub settingSound : Setting → Bool
 settingSound r = inRanges (r .type) (λ k. getD (r .numbers) k 0)
 

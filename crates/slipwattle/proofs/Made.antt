@@ -297,5 +297,5 @@ granted-bits = all-claims .granted-bits
 pub lines : AllHold sheet × (AllHold starts × AllHold run × AllHold searches × AllHold masks × AllHold writes × AllHold reads × AllHold images × AllHold romSizes × AllHold registers × AllHold grants × AllHold places)
 lines = (all-claims .bench-sheet, all-claims .example-runs)
 
-pub how-many : (length sheet ≡ 14) × (length starts ≡ 28) × (length run ≡ 1) × (length searches ≡ 17) × (length masks ≡ 23) × (length writes ≡ 52) × (length reads ≡ 11) × (length images ≡ 29) × (length romSizes ≡ 2) × (length registers ≡ 6) × (length grants ≡ 5) × (length places ≡ 13)
+pub how-many : (length sheet ≡ 14) × (length starts ≡ 28) × (length run ≡ 1) × (length searches ≡ 17) × (length masks ≡ 33) × (length writes ≡ 53) × (length reads ≡ 11) × (length images ≡ 29) × (length romSizes ≡ 2) × (length registers ≡ 11) × (length grants ≡ 5) × (length places ≡ 13)
 how-many = (refl, refl, refl, refl, refl, refl, refl, refl, refl, refl, refl, refl)

@@ -90,19 +90,18 @@ fn bad_settings(record_type: u8, s: Settings) -> Settings {
     }
 }
 
+// What is wrong, and where; the flags and the bytes lent.
+fn wrong(words: &[u8], at: u64, pci: u8, pci_x: u8, express: u8, lent: usize) {
+    print::decimals(
+        words,
+        &[at, pci as u64, pci_x as u64, express as u64, lent as u64],
+    );
+}
+
 fn bad(record_type: u8, pci: u8, pci_x: u8, express: u8, lent: usize)
     requires { ⌜ lent ≤ 128 ⌝ }
 {
-    print::decimals(
-        b"bad",
-        &[
-            record_type as u64,
-            pci as u64,
-            pci_x as u64,
-            express as u64,
-            lent as u64,
-        ],
-    );
+    wrong(b"bad", record_type as u64, pci, pci_x, express, lent);
     counted(
         bad_settings(record_type, settings(pci, pci_x, express)),
         lent,
@@ -113,16 +112,7 @@ fn bad(record_type: u8, pci: u8, pci_x: u8, express: u8, lent: usize)
 fn senseless(k: usize, pci: u8, pci_x: u8, express: u8, lent: usize)
     requires { ⌜ (k < 8) × (lent ≤ 128) ⌝ }
 {
-    print::decimals(
-        b"senseless",
-        &[
-            k as u64,
-            pci as u64,
-            pci_x as u64,
-            express as u64,
-            lent as u64,
-        ],
-    );
+    wrong(b"senseless", k as u64, pci, pci_x, express, lent);
     counted(
         with_masks(settings(pci, pci_x, express), k, 0xfe, 0xf),
         lent,
