@@ -2,7 +2,7 @@
 -- Assumes nothing.
 use mathlib.Core.Path.{_≡_, refl, sym, _∙_}
 use mathlib.Core.Logic.{_⊎_, inl, inr}
-use mathlib.Core.Bool.{Bool, true, false, _&&_, _||_, true≢false}
+use mathlib.Core.Bool.{Bool, true, false, _&&_, _||_, true≢false, and-true as and-on, and-assoc}
 use mathlib.Core.List.{List, [], _∷_}
 use Rattle.rules.specs.Lists.{every}
 
@@ -48,14 +48,6 @@ same-test false false f g = refl
 pub fails : (q : Bool) → (q ≡ true → ⊥) → q ≡ false
 fails true n = absurd (n refl)
 fails false n = refl
-
-and-on : (a : Bool) → (a && true) ≡ a
-and-on true = refl
-and-on false = refl
-
-and-assoc : (a b c : Bool) → ((a && b) && c) ≡ (a && (b && c))
-and-assoc true b c = refl
-and-assoc false b c = refl
 
 -- tests joined from the left, as code does
 abbrev pub joined : Bool → List Bool → Bool
