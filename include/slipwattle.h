@@ -27,9 +27,9 @@ extern "C" {
 #endif
 
 #define SLIPWATTLE_VERSION_MAJOR 0
-#define SLIPWATTLE_VERSION_MINOR 8
+#define SLIPWATTLE_VERSION_MINOR 9
 #define SLIPWATTLE_VERSION_PATCH 0
-#define SLIPWATTLE_VERSION "0.8.0"
+#define SLIPWATTLE_VERSION "0.9.0"
 
 /* The most rows of a starting list (a table has a bridge for each), the registers of a type 2 record, the most bytes of a ROM, and the most
  * bytes that slipwattle_write_records writes. */
@@ -125,15 +125,52 @@ static const uint8_t SLIPWATTLE_OSC_UUID[16] = {0x5B, 0x4D, 0xDB, 0x33, 0xF7, 0x
 #define SLIPWATTLE_STATUS_UNKNOWN_REVISION 0x08u
 #define SLIPWATTLE_STATUS_MASKED 0x10u
 
-/* The third DWORD: the control bits, 0 to 4, and all five. A bit that is asked for is granted if it is held or permitted; but Express hot
- * plug, PME or AER, where not held yet, only if the same call also asks for the Express capability structure, and that is held or
- * permitted. */
+/* The second DWORD: the support bits, by which the caller declares what it supports, and all that are known in an edition of the PCI
+ * Firmware Specification (enum slipwattle_edition): bits 0 to 4 in 3.0, 0 to 8 in 3.3. */
+#define SLIPWATTLE_SUPPORT_EXTENDED_CONFIG 0x01u
+#define SLIPWATTLE_SUPPORT_ACTIVE_STATE_POWER_MANAGEMENT 0x02u
+#define SLIPWATTLE_SUPPORT_CLOCK_POWER_MANAGEMENT 0x04u
+#define SLIPWATTLE_SUPPORT_SEGMENT_GROUPS 0x08u
+#define SLIPWATTLE_SUPPORT_MSI 0x10u
+#define SLIPWATTLE_SUPPORT_OPTIMIZED_BUFFER_FLUSH_FILL 0x20u
+#define SLIPWATTLE_SUPPORT_ASPM_OPTIONALITY 0x40u
+#define SLIPWATTLE_SUPPORT_ERROR_DISCONNECT_RECOVER 0x80u
+#define SLIPWATTLE_SUPPORT_HPX_TYPE_3 0x100u
+#define SLIPWATTLE_SUPPORT_ALL_3_0 0x1Fu
+#define SLIPWATTLE_SUPPORT_ALL_3_3 0x1FFu
+
+/* The third DWORD: the control bits, and all that are known in an edition. What each needs:
+ *
+ *    bit                                 in edition 3.0    in edition 3.3
+ *    0  Express hot plug                 bit 4             bit 4
+ *    1  SHPC hot plug                    nothing           bit 4
+ *    2  PME                              bit 4             bit 4
+ *    3  AER                              bit 4             bits 4 and 7
+ *    4  Express capability structure     nothing           nothing
+ *    5  latency tolerance reporting      not known         bit 4
+ *    6  all ones invalid                 not known         nothing
+ *    7  downstream port containment      not known         bits 3 and 4, support bit 7
+ *    8  completion timeout               not known         bit 4
+ *    9  system firmware intermediary     not known         nothing
+ *
+ * Bit 6 has no title in the specification: drivers never take an all-ones read for data.
+ *
+ * Granted is the largest set of requested known bits in which each is held, or is permitted and has the control bits that it needs in the
+ * set and the support bits that it needs declared: by this call, or among the bridge's supported bits. So a held bit serves another only if
+ * the same call requests it too; and where neither is held, edition 3.3 grants AER and downstream port containment together or not at all.
+ */
 #define SLIPWATTLE_CONTROL_EXPRESS_HOT_PLUG 0x01u
 #define SLIPWATTLE_CONTROL_SHPC_HOT_PLUG 0x02u
 #define SLIPWATTLE_CONTROL_PME 0x04u
 #define SLIPWATTLE_CONTROL_AER 0x08u
 #define SLIPWATTLE_CONTROL_EXPRESS_CAPABILITY 0x10u
-#define SLIPWATTLE_CONTROL_ALL 0x1Fu
+#define SLIPWATTLE_CONTROL_LATENCY_TOLERANCE_REPORTING 0x20u
+#define SLIPWATTLE_CONTROL_ALL_ONES_INVALID 0x40u
+#define SLIPWATTLE_CONTROL_DOWNSTREAM_PORT_CONTAINMENT 0x80u
+#define SLIPWATTLE_CONTROL_COMPLETION_TIMEOUT 0x100u
+#define SLIPWATTLE_CONTROL_SYSTEM_FIRMWARE_INTERMEDIARY 0x200u
+#define SLIPWATTLE_CONTROL_ALL_3_0 0x1Fu
+#define SLIPWATTLE_CONTROL_ALL_3_3 0x3FFu
 
 /* The code types of a ROM image that the PCI Firmware Specification assigns: Intel x86, PC-AT compatible; Open Firmware; Hewlett-Packard
  * PA RISC; UEFI. The others, 4 to 255, are reserved; a call may ask for them too. */
@@ -142,10 +179,18 @@ static const uint8_t SLIPWATTLE_OSC_UUID[16] = {0x5B, 0x4D, 0xDB, 0x33, 0xF7, 0x
 #define SLIPWATTLE_CODE_TYPE_PA_RISC 2
 #define SLIPWATTLE_CODE_TYPE_UEFI 3
 
-/* The kind of a host bridge. A conventional one permits no control bit but SHPC hot plug. */
+/* The kind of a host bridge. A conventional one permits no control bit but SHPC hot plug, which edition 3.3 never grants there: it needs
+ * bit 4. */
 enum slipwattle_kind {
     SLIPWATTLE_KIND_EXPRESS = 0,
     SLIPWATTLE_KIND_CONVENTIONAL = 1
+};
+
+/* The edition of the PCI Firmware Specification by which a host bridge answers _OSC: it says which support and control bits are known, and
+ * what a control bit needs. */
+enum slipwattle_edition {
+    SLIPWATTLE_EDITION_3_0 = 0,
+    SLIPWATTLE_EDITION_3_3 = 1
 };
 
 /* A session number and a bridge number are of different types, so that one does not pass for the other. */
@@ -157,9 +202,11 @@ typedef struct {
     uint8_t number;
 } slipwattle_bridge;
 
-/* A row of the starting list: the control bits that _OSC may grant, the PCI segment, the session that owns the bridge (0 to 63), its
- * buses, and its kind (enum slipwattle_kind). With the fields by name:
- *    {.permitted = SLIPWATTLE_CONTROL_ALL, .segment = 0, .owner = {1}, .first_bus = 0, .last_bus = 15, .kind = SLIPWATTLE_KIND_EXPRESS} */
+/* A row of the starting list: the control bits that _OSC may grant, of those known in its edition, the PCI segment, the session that owns
+ * the bridge (0 to 63), its buses, its kind (enum slipwattle_kind), and its edition (enum slipwattle_edition). With the fields by name,
+ * where an edition left out is 3.0:
+ *    {.permitted = SLIPWATTLE_CONTROL_ALL_3_3, .segment = 0, .owner = {1}, .first_bus = 0, .last_bus = 15, .kind = SLIPWATTLE_KIND_EXPRESS,
+ *     .edition = SLIPWATTLE_EDITION_3_3} */
 typedef struct {
     uint32_t permitted;
     uint16_t segment;
@@ -167,6 +214,7 @@ typedef struct {
     uint8_t first_bus;
     uint8_t last_bus;
     uint8_t kind;
+    uint8_t edition;
 } slipwattle_bridge_row;
 
 /* A host bridge as the table keeps it. For the calls alone. */
@@ -179,6 +227,7 @@ typedef struct {
     slipwattle_session owner;
     uint8_t first_bus;
     uint8_t last_bus;
+    uint8_t edition;
 } slipwattle_host_bridge;
 
 /* The table of host bridges: 2056 bytes, 64 bridges of 32 bytes and their count. For the calls alone. */
@@ -196,7 +245,8 @@ typedef struct {
  *
  * mcfg: the bytes of the ACPI MCFG table, header included: 44, and 16 for each of 0 to 64 entries.
  * rows: the starting list, a row for each bridge. Bridges are numbered from 0 in this order. row_count counts rows, not bytes. More than
- *    SLIPWATTLE_MAX_ROWS of them, or a kind that is none, is 7.
+ *    SLIPWATTLE_MAX_ROWS of them, a kind or an edition that is none, or a permitted bit not known in the row's edition, is 7. One list may
+ *    have rows of both editions.
  */
 slipwattle_started slipwattle_start(const uint8_t *mcfg, size_t mcfg_length, const slipwattle_bridge_row *rows, size_t row_count);
 
@@ -205,7 +255,11 @@ slipwattle_started slipwattle_start(const uint8_t *mcfg, size_t mcfg_length, con
  * uuid: 16 bytes as they stand in the buffer. revision, count: the arguments of _OSC, count in DWORDs.
  * capabilities, answer: 4 x count bytes each, little-endian DWORDs: status, support, control. With 0 the answer is full: its status
  *    says of an unknown UUID, another revision, a count that is not 3 (SLIPWATTLE_STATUS_FAILURE) or masked bits.
- * Without SLIPWATTLE_QUERY_FLAG the granted bits join those held, the known support bits those supported.
+ * Without SLIPWATTLE_QUERY_FLAG the granted bits join those held, the known support bits those supported. The bridge's edition says which
+ *    are known.
+ * To negotiate, send a query, then a second one for the control bits that came back, then a taking call for these, all three with the same
+ *    support DWORD. If no other taking call or reset reaches the bridge meanwhile, the second answer is not masked, and the taking call
+ *    grants exactly these bits.
  */
 uint8_t slipwattle_osc(slipwattle_table *table, slipwattle_session session, slipwattle_bridge bridge, uint32_t revision, uint32_t count,
                        const uint8_t *uuid, size_t uuid_length, const uint8_t *capabilities, size_t capabilities_length,

@@ -1,13 +1,14 @@
 //! The documents in ordinary Rust: what the random trials and the timings compare with.
 //!
 //! It shares nothing with the proved program but the documents (the modules follow the sections of document 01; `rom` is document 02,
-//! a, `writer` its g and `masks` its h) and the numbers of the two kinds of bridge, 0 and 1. Imports go one way: `bridge` is what the
-//! table keeps, others above it work on one bridge, and `table` is on top.
+//! a, `edition` its d, `writer` its g and `masks` its h) and the numbers of the two kinds of bridge and of the two editions, 0 and 1.
+//! Imports go one way: `bridge` is what the table keeps, others above it work on one bridge, and `table` is on top.
 #![no_std]
 #![forbid(unsafe_code)]
 
 mod bridge;
 mod buses;
+mod edition;
 mod limits;
 mod list;
 mod masks;
@@ -23,9 +24,9 @@ mod table;
 mod writer;
 
 pub use bridge::{BridgeNumber, SessionNumber};
+pub use edition::granted;
 pub use masks::Masks;
 pub use mcfg::byte_sum;
-pub use osc::granted;
 pub use place::Place;
 pub use records::find_record;
 pub use refusal::Refusal;

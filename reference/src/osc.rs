@@ -22,33 +22,6 @@ const UNKNOWN_REVISION: u32 = 1 << 3;
 /// Status of an answer: some requested bit was not granted.
 const MASKED: u32 = 1 << 4;
 
-/// Control bit 0, Express hot plug.
-pub(crate) const EXPRESS_HOT_PLUG: u32 = 1 << 0;
-/// Control bit 1, SHPC hot plug.
-pub(crate) const SHPC_HOT_PLUG: u32 = 1 << 1;
-/// Control bit 2, power management events.
-const PME: u32 = 1 << 2;
-/// Control bit 3, advanced error reporting.
-pub(crate) const AER: u32 = 1 << 3;
-/// Control bit 4, Express capability structure.
-const EXPRESS_CAPABILITY: u32 = 1 << 4;
-/// Bits 0 to 4: the known control bits, and the known support bits as well.
-pub(crate) const KNOWN_BITS: u32 = 0x1F;
-/// The control bits that need the Express capability structure asked for in the same call, unless they are held already.
-const DEPENDENT: u32 = EXPRESS_HOT_PLUG | PME | AER;
-
-/// The requested bits that are granted.
-#[inline]
-pub fn granted(permitted: u32, held: u32, requested: u32) -> u32 {
-    let capability = requested & (held | permitted) & EXPRESS_CAPABILITY != 0;
-    let grantable = if capability {
-        permitted
-    } else {
-        permitted & !DEPENDENT
-    };
-    requested & KNOWN_BITS & (held | grantable)
-}
-
 /// An _OSC call with right framing.
 pub(crate) struct OscCall<'a> {
     uuid: &'a [u8; 16],
@@ -95,11 +68,18 @@ impl<'a> OscCall<'a> {
         else {
             return self.fail(FAILURE);
         };
+        let edition = bridge.edition;
+        let declared = edition.declared(bridge.supported.into(), u32::from_le_bytes(support));
         let requested = u32::from_le_bytes(control);
-        let granted = granted(bridge.permitted.into(), bridge.held.into(), requested);
+        let granted = edition.granted(
+            bridge.permitted.into(),
+            bridge.held.into(),
+            declared,
+            requested,
+        );
         if u32::from_le_bytes(status) & QUERY == 0 {
-            bridge.held |= granted as u8;
-            bridge.supported |= (u32::from_le_bytes(support) & KNOWN_BITS) as u8;
+            bridge.held |= granted as u16;
+            bridge.supported = declared as u16;
         }
         let masked = if granted == requested { 0 } else { MASKED };
         *to_status = masked.to_le_bytes();

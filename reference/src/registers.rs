@@ -3,9 +3,9 @@
 use core::ops::Range;
 
 use crate::bridge::Bridge;
+use crate::edition::{AER, EXPRESS_HOT_PLUG};
 use crate::limits::MAX_WORD;
 use crate::masks::REGISTERS;
-use crate::osc::{AER, EXPRESS_HOT_PLUG};
 use crate::records::{PCI_EXPRESS, pairs, search};
 use crate::refusal::Refusal;
 

@@ -2,9 +2,9 @@
 
 use crate::bridge::{Bridge, SessionNumber};
 use crate::buses::BusRange;
+use crate::edition::{Edition, SHPC_HOT_PLUG};
 use crate::limits::MAX_OWNER;
 use crate::mcfg::Entry;
-use crate::osc::{KNOWN_BITS, SHPC_HOT_PLUG};
 
 /// The kind of a host bridge that starts a PCI Express hierarchy.
 const EXPRESS: u8 = 0;
@@ -26,13 +26,16 @@ pub struct BridgeRow {
     pub kind: u8,
     /// The control bits that its owner may be granted.
     pub permitted: u32,
+    /// The edition of the control field: 0 the old one, 1 edition 3.3.
+    pub edition: u8,
 }
 
 impl BridgeRow {
     /// The bridge of a row that is sound by itself, with the base of its MCFG entry.
     pub(crate) fn bridge(&self, entries: &[Entry]) -> Option<Bridge> {
+        let edition = Edition::numbered(self.edition)?;
         let permissible = match self.kind {
-            EXPRESS => KNOWN_BITS,
+            EXPRESS => edition.known_control(),
             CONVENTIONAL => SHPC_HOT_PLUG,
             _ => return None,
         };
@@ -45,7 +48,8 @@ impl BridgeRow {
             base: entry.base,
             buses,
             owner: self.owner,
-            permitted: self.permitted as u8,
+            edition,
+            permitted: self.permitted as u16,
             held: 0,
             supported: 0,
         })

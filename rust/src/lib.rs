@@ -12,8 +12,10 @@
 //! # Example
 //!
 //! ```
-//! use slipwattle::osc::{CONTROL_ALL, OSC_COUNT, OSC_REVISION, OSC_UUID, QUERY_FLAG};
-//! use slipwattle::{BridgeKind, BridgeNumber, BridgeRow, Place, Refusal, SessionNumber, Table};
+//! use slipwattle::osc::{CONTROL_ALL_3_0, OSC_COUNT, OSC_REVISION, OSC_UUID, QUERY_FLAG};
+//! use slipwattle::{
+//!     BridgeKind, BridgeNumber, BridgeRow, Edition, Place, Refusal, SessionNumber, Table,
+//! };
 //!
 //! // One MCFG entry: base 0xE0000000, segment 0, buses 0 to 255.
 //! let mut mcfg = [0; 60];
@@ -23,12 +25,13 @@
 //! // A class bridge and a live one.
 //! let (class, live) = (SessionNumber(1), SessionNumber(2));
 //! let row = |owner, first_bus, last_bus| BridgeRow {
-//!     permitted: CONTROL_ALL,
+//!     permitted: CONTROL_ALL_3_0,
 //!     segment: 0,
 //!     owner,
 //!     first_bus,
 //!     last_bus,
 //!     kind: BridgeKind::Express,
+//!     edition: Edition::V3_0,
 //! };
 //! let mut table = Table::start(&mcfg, &[row(class, 0, 15), row(live, 16, 31)])?;
 //! let (class_bridge, live_bridge) = (BridgeNumber(0), BridgeNumber(1));
@@ -41,10 +44,10 @@
 //!     table.osc(class, class_bridge, OSC_REVISION, OSC_COUNT, &OSC_UUID, asked, answered)?;
 //!     Ok(answer.map(u32::from_le_bytes))
 //! };
-//! let [status, _, granted] = ask(QUERY_FLAG, CONTROL_ALL)?;
-//! assert_eq!((status, granted), (0, CONTROL_ALL));
+//! let [status, _, granted] = ask(QUERY_FLAG, CONTROL_ALL_3_0)?;
+//! assert_eq!((status, granted), (0, CONTROL_ALL_3_0));
 //! ask(0, granted)?;
-//! assert_eq!(table.report(class, class_bridge)?.held, CONTROL_ALL);
+//! assert_eq!(table.report(class, class_bridge)?.held, CONTROL_ALL_3_0);
 //!
 //! // An address, and the place that it leads to.
 //! let place = Place { bridge: class_bridge, bus: 1, device: 2, function: 3, offset: 0x10 };
@@ -79,4 +82,4 @@ pub use settings::Settings;
 pub use sys::{ExpressSetting, Masks, PciSetting, PciXSetting};
 pub use sys::{MAX_ROM, MAX_ROWS, MAX_WRITTEN, REGISTERS};
 pub use table::Table;
-pub use types::{BridgeKind, BridgeNumber, BridgeRow, Holding, Place, SessionNumber};
+pub use types::{BridgeKind, BridgeNumber, BridgeRow, Edition, Holding, Place, SessionNumber};

@@ -49,6 +49,8 @@ pub struct BridgeRow {
     pub last_bus: u8,
     /// The kind: 0 Express, 1 conventional; any other is refused.
     pub kind: u8,
+    /// The edition: 0 for 3.0, 1 for 3.3; any other is refused.
+    pub edition: u8,
 }
 
 /// `slipwattle_host_bridge`: a host bridge as the table keeps it. For the calls alone.
@@ -71,6 +73,8 @@ pub struct HostBridge {
     pub first_bus: u8,
     /// The last bus.
     pub last_bus: u8,
+    /// The edition.
+    pub edition: u8,
 }
 
 /// `slipwattle_table`: the table of host bridges, 2056 bytes. For the calls alone.
@@ -280,11 +284,13 @@ const _: () = {
     assert!(offset_of!(BridgeRow, permitted) == 0 && offset_of!(BridgeRow, segment) == 4);
     assert!(offset_of!(BridgeRow, owner) == 6 && offset_of!(BridgeRow, first_bus) == 7);
     assert!(offset_of!(BridgeRow, last_bus) == 8 && offset_of!(BridgeRow, kind) == 9);
+    assert!(offset_of!(BridgeRow, edition) == 10);
     assert!(size_of::<HostBridge>() == 32 && align_of::<HostBridge>() == 8);
     assert!(offset_of!(HostBridge, base) == 0 && offset_of!(HostBridge, permitted) == 8);
     assert!(offset_of!(HostBridge, held) == 12 && offset_of!(HostBridge, supported) == 16);
     assert!(offset_of!(HostBridge, segment) == 20 && offset_of!(HostBridge, owner) == 22);
     assert!(offset_of!(HostBridge, first_bus) == 23 && offset_of!(HostBridge, last_bus) == 24);
+    assert!(offset_of!(HostBridge, edition) == 25);
     assert!(size_of::<Table>() == 2056 && align_of::<Table>() == 8);
     assert!(offset_of!(Table, bridges) == 0 && offset_of!(Table, count) == 2048);
     assert!(size_of::<Started>() == 2064 && offset_of!(Started, number) == 2056);

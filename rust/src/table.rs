@@ -62,9 +62,13 @@ impl Table {
     /// Answers an _OSC call on a bridge of the session: `uuid` is 16 bytes as they stand in the buffer, `revision` and `count` are the
     /// call's arguments, `capabilities` and `answer` have 4 x `count` bytes each, little-endian DWORDs: status, support, control.
     ///
-    /// Where the call is done the answer is full, and its status DWORD is 0 or a status of [`osc`](crate::osc). Without the
-    /// [`QUERY_FLAG`](crate::osc::QUERY_FLAG) in the capabilities' first DWORD the granted control bits join those held, and the known
-    /// support bits those supported.
+    /// Where the call is done the answer is full, and its status DWORD is 0 or a status of [`osc`](crate::osc), which says what is granted.
+    /// Without the [`QUERY_FLAG`](crate::osc::QUERY_FLAG) in the capabilities' first DWORD the granted control bits join those held, and the
+    /// known support bits those supported. Which are known goes by the [`Edition`](crate::Edition) of the bridge's row.
+    ///
+    /// To negotiate, send a query, then a second one for the control bits that came back, then a taking call for these, all three with the
+    /// same support DWORD. If no other taking call or reset reaches the bridge meanwhile, the second answer is not masked, and the taking
+    /// call grants exactly these bits.
     ///
     /// # Errors
     ///
@@ -139,11 +143,11 @@ impl Table {
     ///
     /// ```
     #[doc = include_str!("example_start.txt")]
-    /// let take = [0, 0x03, CONTROL_ALL].map(u32::to_le_bytes);
+    /// let take = [0, SUPPORT_MSI, CONTROL_ALL_3_0].map(u32::to_le_bytes);
     /// let (capabilities, answer) = (take.as_flattened(), &mut [0; 12]);
     /// table.osc(session, bridge, OSC_REVISION, OSC_COUNT, &OSC_UUID, capabilities, answer)?;
     /// let holding = table.report(session, bridge)?;
-    /// assert_eq!((holding.held, holding.supported), (CONTROL_ALL, 0x03));
+    /// assert_eq!((holding.held, holding.supported), (CONTROL_ALL_3_0, SUPPORT_MSI));
     /// # Ok::<(), Refusal>(())
     /// ```
     pub fn report(&self, session: SessionNumber, bridge: BridgeNumber) -> Result<Holding, Refusal> {

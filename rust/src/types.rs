@@ -36,15 +36,28 @@ impl BridgeNumber {
 pub enum BridgeKind {
     /// PCI Express.
     Express = 0,
-    /// Conventional PCI, which permits no control bit but [`CONTROL_SHPC_HOT_PLUG`](crate::osc::CONTROL_SHPC_HOT_PLUG).
+    /// Conventional PCI, which permits no control bit but [`CONTROL_SHPC_HOT_PLUG`](crate::osc::CONTROL_SHPC_HOT_PLUG). Edition 3.3 never
+    /// grants that there, since it needs [`CONTROL_EXPRESS_CAPABILITY`](crate::osc::CONTROL_EXPRESS_CAPABILITY).
     Conventional = 1,
+}
+
+/// The edition of the PCI Firmware Specification by which a host bridge answers _OSC: it says which bits of [`osc`](crate::osc) are known,
+/// and what a control bit needs. By default it is 3.0.
+#[repr(u8)]
+#[derive(Clone, Copy, Debug, Default, PartialEq, Eq)]
+pub enum Edition {
+    /// Edition 3.0: support bits 0 to 4 and control bits 0 to 4.
+    #[default]
+    V3_0 = 0,
+    /// Edition 3.3: support bits 0 to 8 and control bits 0 to 9.
+    V3_3 = 1,
 }
 
 /// A row of the starting list. It is laid out as the C header's, so that the list is lent as it stands.
 #[repr(C)]
 #[derive(Clone, Copy, Debug, PartialEq, Eq)]
 pub struct BridgeRow {
-    /// The control bits that _OSC may grant, of those in [`osc`](crate::osc).
+    /// The control bits that _OSC may grant, of those in [`osc`](crate::osc) that are known in the row's edition.
     pub permitted: u32,
     /// The PCI segment.
     pub segment: u16,
@@ -56,6 +69,8 @@ pub struct BridgeRow {
     pub last_bus: u8,
     /// The kind of bridge.
     pub kind: BridgeKind,
+    /// The edition by which it answers _OSC.
+    pub edition: Edition,
 }
 
 // `Table::start` lends these rows as those of sys.
@@ -68,8 +83,10 @@ const _: () = {
     assert!(offset_of!(BridgeRow, first_bus) == offset_of!(sys::BridgeRow, first_bus));
     assert!(offset_of!(BridgeRow, last_bus) == offset_of!(sys::BridgeRow, last_bus));
     assert!(offset_of!(BridgeRow, kind) == offset_of!(sys::BridgeRow, kind));
+    assert!(offset_of!(BridgeRow, edition) == offset_of!(sys::BridgeRow, edition));
     assert!(size_of::<SessionNumber>() == size_of::<sys::SessionNumber>());
     assert!(size_of::<BridgeKind>() == size_of::<u8>());
+    assert!(size_of::<Edition>() == size_of::<u8>());
 };
 
 /// What a bridge holds.

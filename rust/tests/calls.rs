@@ -6,12 +6,15 @@ use std::ops::Range;
 use fixture::mcfg;
 use slipwattle::code_type::{OPEN_FIRMWARE, PA_RISC, PC_AT, UEFI};
 use slipwattle::osc::{
-    CONTROL_AER, CONTROL_ALL, CONTROL_EXPRESS_CAPABILITY, CONTROL_EXPRESS_HOT_PLUG,
-    CONTROL_SHPC_HOT_PLUG, OSC_COUNT, OSC_REVISION, OSC_UUID, QUERY_FLAG, STATUS_FAILURE,
-    STATUS_MASKED, STATUS_UNKNOWN_REVISION, STATUS_UNKNOWN_UUID,
+    CONTROL_AER, CONTROL_ALL_3_0, CONTROL_ALL_3_3, CONTROL_ALL_ONES_INVALID,
+    CONTROL_COMPLETION_TIMEOUT, CONTROL_DOWNSTREAM_PORT_CONTAINMENT, CONTROL_EXPRESS_CAPABILITY,
+    CONTROL_EXPRESS_HOT_PLUG, CONTROL_LATENCY_TOLERANCE_REPORTING, CONTROL_PME,
+    CONTROL_SHPC_HOT_PLUG, CONTROL_SYSTEM_FIRMWARE_INTERMEDIARY, OSC_COUNT, OSC_REVISION, OSC_UUID,
+    QUERY_FLAG, STATUS_FAILURE, STATUS_MASKED, STATUS_UNKNOWN_REVISION, STATUS_UNKNOWN_UUID,
+    SUPPORT_ALL_3_0, SUPPORT_ALL_3_3, SUPPORT_ERROR_DISCONNECT_RECOVER,
 };
 use slipwattle::{
-    BridgeKind, BridgeNumber, BridgeRow, Holding, MAX_ROM, PciXSetting, Place, Refusal,
+    BridgeKind, BridgeNumber, BridgeRow, Edition, Holding, MAX_ROM, PciXSetting, Place, Refusal,
     SessionNumber, Settings, Table, find_image, find_record,
 };
 
@@ -35,15 +38,25 @@ const TYPE_1: &[u8] = &[1, 16, 0, 1, 0, 0, 0, 3, 0, 0, 0, 4, 0, 0, 0, 7, 0, 0, 0
 const VENDOR: u32 = 0x1234;
 const DEVICE: u32 = 0x5678;
 
-/// An Express row of 16 buses for each owner.
+/// An Express row of 16 buses for each owner, of edition 3.0.
 fn row(owner: u8) -> BridgeRow {
     BridgeRow {
-        permitted: CONTROL_ALL,
+        permitted: CONTROL_ALL_3_0,
         segment: 0,
         owner: SessionNumber(owner),
         first_bus: 16 * (owner - 1),
         last_bus: 16 * (owner - 1) + 15,
         kind: BridgeKind::Express,
+        edition: Edition::V3_0,
+    }
+}
+
+/// The same of edition 3.3.
+fn row_3_3(owner: u8) -> BridgeRow {
+    BridgeRow {
+        permitted: CONTROL_ALL_3_3,
+        edition: Edition::V3_3,
+        ..row(owner)
     }
 }
 
@@ -53,12 +66,22 @@ fn table() -> Table {
 
 /// The class's _OSC call with these DWORDs, and the answer's.
 fn osc(table: &mut Table, capabilities: [u32; 3]) -> [u32; 3] {
+    osc_by(table, CLASS, CLASS_BRIDGE, capabilities)
+}
+
+/// A session's _OSC call on its bridge.
+fn osc_by(
+    table: &mut Table,
+    session: SessionNumber,
+    bridge: BridgeNumber,
+    capabilities: [u32; 3],
+) -> [u32; 3] {
     let capabilities = capabilities.map(u32::to_le_bytes);
     let mut answer = [[0xAA; 4]; 3];
     let (asked, answered) = (capabilities.as_flattened(), answer.as_flattened_mut());
     let done = table.osc(
-        CLASS,
-        CLASS_BRIDGE,
+        session,
+        bridge,
         OSC_REVISION,
         OSC_COUNT,
         &OSC_UUID,
@@ -143,12 +166,13 @@ fn start_hands_over_every_field_of_a_row() {
         edit(&mut row);
         Table::start(&mcfg(), &[row]).map(|table| table.len())
     };
-    let sound: [fn(&mut BridgeRow); 3] = [
+    let sound: [fn(&mut BridgeRow); 4] = [
         |row| row.owner = SessionNumber(63),
         |row| row.last_bus = 255,
         |row| (row.kind, row.permitted) = (BridgeKind::Conventional, CONTROL_SHPC_HOT_PLUG),
+        |row| (row.edition, row.permitted) = (Edition::V3_3, 1 << 9),
     ];
-    let unsound: [fn(&mut BridgeRow); 7] = [
+    let unsound: [fn(&mut BridgeRow); 8] = [
         |row| row.owner = SessionNumber(64),
         |row| row.segment = 1,
         |row| row.segment = 1 << 8,
@@ -156,9 +180,36 @@ fn start_hands_over_every_field_of_a_row() {
         |row| row.kind = BridgeKind::Conventional,
         |row| row.permitted = 1 << 5,
         |row| row.permitted = 1 << 31,
+        |row| (row.edition, row.permitted) = (Edition::V3_3, 1 << 10),
     ];
-    assert_eq!(sound.map(start), [Ok(1); 3]);
-    assert_eq!(unsound.map(start), [Err(Refusal::Rows); 7]);
+    assert_eq!(sound.map(start), [Ok(1); 4]);
+    assert_eq!(unsound.map(start), [Err(Refusal::Rows); 8]);
+}
+
+#[test]
+fn a_row_permits_bits_known_in_its_edition() {
+    let sound = |edition, kind, permitted| {
+        let row = BridgeRow {
+            edition,
+            kind,
+            permitted,
+            ..row(1)
+        };
+        let refused = Table::start(&mcfg(), &[row]).err();
+        assert!(matches!(refused, None | Some(Refusal::Rows)));
+        refused.is_none()
+    };
+    for (edition, known) in [(Edition::V3_0, 0..5), (Edition::V3_3, 0..10)] {
+        for bit in 0..32 {
+            let express = sound(edition, BridgeKind::Express, 1 << bit);
+            assert_eq!(express, known.contains(&bit));
+            let conventional = sound(edition, BridgeKind::Conventional, 1 << bit);
+            assert_eq!(conventional, bit == 1);
+        }
+        assert!(sound(edition, BridgeKind::Express, (1 << known.end) - 1));
+        assert!(!sound(edition, BridgeKind::Conventional, 0x12));
+    }
+    assert_eq!(Edition::default(), Edition::V3_0);
 }
 
 #[test]
@@ -184,8 +235,8 @@ fn start_takes_0_to_64_rows() {
 #[test]
 fn osc_has_the_named_bits() {
     let mut table = table();
-    let query = [QUERY_FLAG, 0, CONTROL_ALL];
-    assert_eq!(osc(&mut table, query), [0, 0, CONTROL_ALL]);
+    let query = [QUERY_FLAG, 0, CONTROL_ALL_3_0];
+    assert_eq!(osc(&mut table, query), [0, 0, CONTROL_ALL_3_0]);
     let no_capability = [0, 0, CONTROL_AER | CONTROL_SHPC_HOT_PLUG];
     let granted = [STATUS_MASKED, 0, CONTROL_SHPC_HOT_PLUG];
     assert_eq!(osc(&mut table, no_capability), granted);
@@ -213,6 +264,146 @@ fn aer_is_taken_in_one_call_with_the_capability_structure() {
     assert_eq!(osc(&mut table, both), both);
     // Held, it is granted again by itself.
     assert_eq!(osc(&mut table, aer), aer);
+}
+
+/// What a taking call is granted on a new bridge of the class.
+fn granted(edition: Edition, permitted: u32, requested: u32, support: u32) -> u32 {
+    let row = BridgeRow {
+        permitted,
+        edition,
+        ..row(1)
+    };
+    let mut table = Table::start(&mcfg(), &[row]).unwrap();
+    let [status, declared, granted] = osc(&mut table, [0, support, requested]);
+    assert_eq!(declared, support);
+    assert_eq!(status, STATUS_MASKED * u32::from(granted != requested));
+    assert_eq!(table.report(CLASS, CLASS_BRIDGE).unwrap().held, granted);
+    granted
+}
+
+#[test]
+fn a_bit_of_edition_3_3_needs_others() {
+    let grants =
+        |permitted, requested, support| granted(Edition::V3_3, permitted, requested, support);
+    let (all, all_support) = (CONTROL_ALL_3_3, SUPPORT_ALL_3_3);
+    let capability = CONTROL_EXPRESS_CAPABILITY;
+    for bit in [
+        CONTROL_EXPRESS_HOT_PLUG,
+        CONTROL_SHPC_HOT_PLUG,
+        CONTROL_PME,
+        CONTROL_LATENCY_TOLERANCE_REPORTING,
+        CONTROL_COMPLETION_TIMEOUT,
+    ] {
+        let both = bit | capability;
+        assert_eq!(grants(both, both, 0), both);
+        assert_eq!(grants(all, bit, all_support), 0);
+        assert_eq!(grants(bit, both, all_support), 0);
+    }
+    for bit in [
+        capability,
+        CONTROL_ALL_ONES_INVALID,
+        CONTROL_SYSTEM_FIRMWARE_INTERMEDIARY,
+    ] {
+        assert_eq!(grants(bit, bit, 0), bit);
+    }
+    // AER and downstream port containment need each other.
+    let (aer, containment) = (CONTROL_AER, CONTROL_DOWNSTREAM_PORT_CONTAINMENT);
+    let three = aer | capability | containment;
+    let recover = SUPPORT_ERROR_DISCONNECT_RECOVER;
+    assert_eq!(grants(three, three, recover), three);
+    assert_eq!(grants(all, three, all_support ^ recover), capability);
+    assert_eq!(grants(all, aer | capability, recover), capability);
+    assert_eq!(grants(all, containment | capability, recover), capability);
+    assert_eq!(grants(all, aer | containment, recover), 0);
+    assert_eq!(grants(all ^ aer, three, recover), capability);
+    assert_eq!(grants(all ^ containment, three, recover), capability);
+}
+
+#[test]
+fn the_largest_set_is_granted() {
+    let lines = [
+        // Permitted, requested, support, granted.
+        [0x3FF, 0x3FF, 0x80, 0x3FF],
+        [0x3FF, 0x3FF, 0x1F, 0x377],
+        [0x3FF, 0x3EF, 0x1FF, 0x240],
+        [0x01F, 0x01F, 0x1FF, 0x017],
+        [0x3FF, 0x400, 0x1FF, 0],
+        [0x3FF, u32::MAX, u32::MAX, 0x3FF],
+    ];
+    for [permitted, requested, support, expected] in lines {
+        let given = granted(Edition::V3_3, permitted, requested, support);
+        assert_eq!(given, expected);
+    }
+    // In edition 3.0 bit 1 needs nothing, bit 3 no bit 7, and higher bits are not known.
+    assert_eq!(granted(Edition::V3_0, 0x1F, 0x02, 0), 0x02);
+    assert_eq!(granted(Edition::V3_0, 0x1F, 0x18, 0), 0x18);
+    assert_eq!(granted(Edition::V3_0, 0x1F, 0x3FF, 0x1FF), 0x1F);
+    assert_eq!(granted(Edition::V3_0, 0x1F, 0x98, 0x80), 0x18);
+}
+
+#[test]
+fn held_bits_and_support_declared_earlier_count() {
+    let mut table = Table::start(&mcfg(), &[row_3_3(1)]).unwrap();
+    // A query declares for itself alone.
+    let (query, again) = ([QUERY_FLAG, 0x80, 0x98], [QUERY_FLAG, 0, 0x98]);
+    assert_eq!(osc(&mut table, query), [0, 0x80, 0x98]);
+    assert_eq!(osc(&mut table, again), [STATUS_MASKED, 0, 0x10]);
+    assert_eq!(osc(&mut table, [0, 0x80, 0]), [0, 0x80, 0]);
+    assert_eq!(osc(&mut table, [0, 0, 0x98]), [0, 0, 0x98]);
+    // A held bit needs nothing; a new one needs bit 4 in the same call.
+    assert_eq!(osc(&mut table, [0, 0, 0x08]), [0, 0, 0x08]);
+    assert_eq!(osc(&mut table, [0, 0, 0x89]), [STATUS_MASKED, 0, 0x88]);
+    let (held, supported) = (0x98, 0x80);
+    let report = table.report(CLASS, CLASS_BRIDGE);
+    assert_eq!(report, Ok(Holding { held, supported }));
+}
+
+#[test]
+fn the_negotiating_calls_carry_the_same_support() {
+    let row = BridgeRow {
+        permitted: 0x1FF,
+        ..row_3_3(1)
+    };
+    for (support, agreed) in [(0x80, 0x1FF), (0x17F, 0x177)] {
+        let mut table = Table::start(&mcfg(), &[row]).unwrap();
+        let first = osc(&mut table, [QUERY_FLAG, support, 0x3FF]);
+        assert_eq!(first, [STATUS_MASKED, support, agreed]);
+        let second = osc(&mut table, [QUERY_FLAG, support, agreed]);
+        assert_eq!(second, [0, support, agreed]);
+        assert_eq!(osc(&mut table, [0, support, agreed]), second);
+        let (held, supported) = (agreed, support);
+        let report = table.report(CLASS, CLASS_BRIDGE);
+        assert_eq!(report, Ok(Holding { held, supported }));
+    }
+    // With another support DWORD the second answer is masked.
+    let mut table = Table::start(&mcfg(), &[row]).unwrap();
+    let first = osc(&mut table, [QUERY_FLAG, 0x80, 0x98]);
+    assert_eq!(first, [0, 0x80, 0x98]);
+    let second = osc(&mut table, [QUERY_FLAG, 0, 0x98]);
+    assert_eq!(second, [STATUS_MASKED, 0, 0x10]);
+}
+
+#[test]
+fn a_table_has_rows_of_both_editions() {
+    let mut table = Table::start(&mcfg(), &[row(1), row_3_3(2)]).unwrap();
+    let mut both = |capabilities| {
+        [(CLASS, CLASS_BRIDGE), (LIVE, LIVE_BRIDGE)].map(|(session, bridge)| {
+            let [status, _, granted] = osc_by(&mut table, session, bridge, capabilities);
+            (status, granted)
+        })
+    };
+    let masked = STATUS_MASKED;
+    assert_eq!(both([QUERY_FLAG, 0, 0x02]), [(0, 0x02), (masked, 0)]);
+    let aer = [QUERY_FLAG, 0x80, 0x18];
+    assert_eq!(both(aer), [(0, 0x18), (masked, 0x10)]);
+    let take = [0, 0x3FF, 0x3FF];
+    assert_eq!(both(take), [(masked, 0x1F), (0, 0x3FF)]);
+    // Each stored the support bits known in its edition.
+    let holding = |held, supported| Ok(Holding { held, supported });
+    let class = table.report(CLASS, CLASS_BRIDGE);
+    assert_eq!(class, holding(CONTROL_ALL_3_0, SUPPORT_ALL_3_0));
+    let live = table.report(LIVE, LIVE_BRIDGE);
+    assert_eq!(live, holding(CONTROL_ALL_3_3, SUPPORT_ALL_3_3));
 }
 
 #[test]

@@ -3,7 +3,7 @@ use std::collections::BTreeMap;
 
 use slipwattle::code_type::*;
 use slipwattle::osc::*;
-use slipwattle::{BridgeKind, MAX_ROM, MAX_ROWS, MAX_WRITTEN, REGISTERS, Refusal};
+use slipwattle::{BridgeKind, Edition, MAX_ROM, MAX_ROWS, MAX_WRITTEN, REGISTERS, Refusal};
 
 const HEADER: &str = include_str!("../../include/slipwattle.h");
 
@@ -42,7 +42,7 @@ macro_rules! by_name {
 }
 
 /// The numbers of `osc`.
-const OSC: [(&str, u32); 13] = by_name![
+const OSC: [(&str, u32); 30] = by_name![
     OSC_REVISION,
     OSC_COUNT,
     QUERY_FLAG,
@@ -50,12 +50,29 @@ const OSC: [(&str, u32); 13] = by_name![
     STATUS_UNKNOWN_UUID,
     STATUS_UNKNOWN_REVISION,
     STATUS_MASKED,
+    SUPPORT_EXTENDED_CONFIG,
+    SUPPORT_ACTIVE_STATE_POWER_MANAGEMENT,
+    SUPPORT_CLOCK_POWER_MANAGEMENT,
+    SUPPORT_SEGMENT_GROUPS,
+    SUPPORT_MSI,
+    SUPPORT_OPTIMIZED_BUFFER_FLUSH_FILL,
+    SUPPORT_ASPM_OPTIONALITY,
+    SUPPORT_ERROR_DISCONNECT_RECOVER,
+    SUPPORT_HPX_TYPE_3,
+    SUPPORT_ALL_3_0,
+    SUPPORT_ALL_3_3,
     CONTROL_EXPRESS_HOT_PLUG,
     CONTROL_SHPC_HOT_PLUG,
     CONTROL_PME,
     CONTROL_AER,
     CONTROL_EXPRESS_CAPABILITY,
-    CONTROL_ALL
+    CONTROL_LATENCY_TOLERANCE_REPORTING,
+    CONTROL_ALL_ONES_INVALID,
+    CONTROL_DOWNSTREAM_PORT_CONTAINMENT,
+    CONTROL_COMPLETION_TIMEOUT,
+    CONTROL_SYSTEM_FIRMWARE_INTERMEDIARY,
+    CONTROL_ALL_3_0,
+    CONTROL_ALL_3_3
 ];
 
 /// The numbers of this crate by the names that they have in the header.
@@ -72,6 +89,8 @@ fn numbers() -> BTreeMap<String, u32> {
         ("DONE", 0),
         ("KIND_EXPRESS", BridgeKind::Express as u32),
         ("KIND_CONVENTIONAL", BridgeKind::Conventional as u32),
+        ("EDITION_3_0", Edition::V3_0 as u32),
+        ("EDITION_3_3", Edition::V3_3 as u32),
     ];
     let code_types = by_name![PC_AT, OPEN_FIRMWARE, PA_RISC, UEFI];
     let code_types = code_types.map(|(name, number)| (format!("CODE_TYPE_{name}"), number));

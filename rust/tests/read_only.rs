@@ -3,9 +3,8 @@
 mod fixture;
 
 use fixture::mcfg;
-use slipwattle::BridgeKind;
 use slipwattle::osc::{
-    CONTROL_ALL, CONTROL_EXPRESS_CAPABILITY, CONTROL_EXPRESS_HOT_PLUG, OSC_COUNT, OSC_REVISION,
+    CONTROL_ALL_3_0, CONTROL_EXPRESS_CAPABILITY, CONTROL_EXPRESS_HOT_PLUG, OSC_COUNT, OSC_REVISION,
     OSC_UUID,
 };
 use slipwattle::sys::{
@@ -13,6 +12,7 @@ use slipwattle::sys::{
     slipwattle_locate, slipwattle_osc, slipwattle_register_values, slipwattle_report,
     slipwattle_start,
 };
+use slipwattle::{BridgeKind, Edition};
 
 const OWNER: SessionNumber = SessionNumber { number: 1 };
 const OTHER: SessionNumber = SessionNumber { number: 2 };
@@ -24,10 +24,12 @@ const NO_BRIDGE: BridgeNumber = BridgeNumber { number: 3 };
 /// What each bridge holds.
 const HELD: [u32; 3] = [
     CONTROL_EXPRESS_HOT_PLUG | CONTROL_EXPRESS_CAPABILITY,
-    CONTROL_ALL,
+    CONTROL_ALL_3_0,
     0,
 ];
 const SUPPORTED: u32 = 0x0F;
+/// The edition of each bridge.
+const EDITIONS: [Edition; 3] = [Edition::V3_0, Edition::V3_0, Edition::V3_3];
 
 const UNUSED: HostBridge = HostBridge {
     base: 0,
@@ -38,19 +40,21 @@ const UNUSED: HostBridge = HostBridge {
     owner: SessionNumber { number: 0 },
     first_bus: 0,
     last_bus: 0,
+    edition: 0,
 };
 
 /// Bridge `number`, of 16 buses, with what it holds.
 const fn host_bridge(number: u8) -> HostBridge {
     HostBridge {
         base: 0xE000_0000,
-        permitted: CONTROL_ALL,
+        permitted: CONTROL_ALL_3_0,
         held: HELD[number as usize],
         supported: SUPPORTED,
         segment: 0,
         owner: OWNER,
         first_bus: 16 * number,
         last_bus: 16 * number + 15,
+        edition: EDITIONS[number as usize] as u8,
     }
 }
 
@@ -69,13 +73,14 @@ static TABLE: Table = Table {
 #[test]
 fn it_is_a_table_of_start() {
     let mcfg = mcfg();
-    let rows = [0, 16, 32].map(|first_bus| BridgeRow {
-        permitted: CONTROL_ALL,
+    let rows = [0, 1, 2].map(|number| BridgeRow {
+        permitted: CONTROL_ALL_3_0,
         segment: 0,
         owner: OWNER,
-        first_bus,
-        last_bus: first_bus + 15,
+        first_bus: 16 * number,
+        last_bus: 16 * number + 15,
         kind: BridgeKind::Express as u8,
+        edition: EDITIONS[number as usize] as u8,
     });
     // SAFETY: each pointer leads to its length of bytes or of rows.
     let mut table =

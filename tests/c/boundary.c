@@ -1,5 +1,5 @@
-/* The ten calls from C: numbers, results, buffers and tables as include/slipwattle.h promises them, on either side of the limits of rows, framing, places, buses,
- * written records, masks, ROMs and the register list.
+/* The ten calls from C: numbers, results, buffers and tables as include/slipwattle.h promises them, on either side of the limits of rows, editions, framing,
+ * places, buses, granting, written records, masks, ROMs and the register list.
  * Compiled as C11 and as C++17. What is expected is worked out from the documents. */
 #include <assert.h>
 #include <stdio.h>
@@ -32,6 +32,7 @@ AT(slipwattle_bridge_row, owner, 6);
 AT(slipwattle_bridge_row, first_bus, 7);
 AT(slipwattle_bridge_row, last_bus, 8);
 AT(slipwattle_bridge_row, kind, 9);
+AT(slipwattle_bridge_row, edition, 10);
 SIZE(slipwattle_host_bridge, 32);
 AT(slipwattle_host_bridge, base, 0);
 AT(slipwattle_host_bridge, permitted, 8);
@@ -41,6 +42,7 @@ AT(slipwattle_host_bridge, segment, 20);
 AT(slipwattle_host_bridge, owner, 22);
 AT(slipwattle_host_bridge, first_bus, 23);
 AT(slipwattle_host_bridge, last_bus, 24);
+AT(slipwattle_host_bridge, edition, 25);
 SIZE(slipwattle_table, 2056);
 AT(slipwattle_table, bridges, 0);
 AT(slipwattle_table, count, 2048);
@@ -109,10 +111,20 @@ SIZE(slipwattle_values, 36);
 AT(slipwattle_values, number, 0);
 AT(slipwattle_values, values, 4);
 
-/* The bits by their numbers in document 01. */
+/* The bits by their numbers in document 01, and in tables 4-4 and 4-5 of the PCI Firmware Specification 3.3. */
 static_assert(SLIPWATTLE_CONTROL_EXPRESS_HOT_PLUG == 1u << 0 && SLIPWATTLE_CONTROL_SHPC_HOT_PLUG == 1u << 1, "hot plug");
 static_assert(SLIPWATTLE_CONTROL_PME == 1u << 2 && SLIPWATTLE_CONTROL_AER == 1u << 3, "PME, AER");
-static_assert(SLIPWATTLE_CONTROL_EXPRESS_CAPABILITY == 1u << 4 && SLIPWATTLE_CONTROL_ALL == (1u << 5) - 1, "the capability structure, all");
+static_assert(SLIPWATTLE_CONTROL_EXPRESS_CAPABILITY == 1u << 4 && SLIPWATTLE_CONTROL_LATENCY_TOLERANCE_REPORTING == 1u << 5, "the capability structure, LTR");
+static_assert(SLIPWATTLE_CONTROL_ALL_ONES_INVALID == 1u << 6 && SLIPWATTLE_CONTROL_DOWNSTREAM_PORT_CONTAINMENT == 1u << 7, "all ones, DPC");
+static_assert(SLIPWATTLE_CONTROL_COMPLETION_TIMEOUT == 1u << 8 && SLIPWATTLE_CONTROL_SYSTEM_FIRMWARE_INTERMEDIARY == 1u << 9, "completion timeout, SFI");
+static_assert(SLIPWATTLE_CONTROL_ALL_3_0 == (1u << 5) - 1 && SLIPWATTLE_CONTROL_ALL_3_3 == (1u << 10) - 1, "control bits 0 to 4 and 0 to 9");
+static_assert(SLIPWATTLE_SUPPORT_EXTENDED_CONFIG == 1u << 0 && SLIPWATTLE_SUPPORT_ACTIVE_STATE_POWER_MANAGEMENT == 1u << 1, "extended space, ASPM");
+static_assert(SLIPWATTLE_SUPPORT_CLOCK_POWER_MANAGEMENT == 1u << 2 && SLIPWATTLE_SUPPORT_SEGMENT_GROUPS == 1u << 3, "clock power, segment groups");
+static_assert(SLIPWATTLE_SUPPORT_MSI == 1u << 4 && SLIPWATTLE_SUPPORT_OPTIMIZED_BUFFER_FLUSH_FILL == 1u << 5, "MSI, OBFF");
+static_assert(SLIPWATTLE_SUPPORT_ASPM_OPTIONALITY == 1u << 6 && SLIPWATTLE_SUPPORT_ERROR_DISCONNECT_RECOVER == 1u << 7, "ASPM optionality, EDR");
+static_assert(SLIPWATTLE_SUPPORT_HPX_TYPE_3 == 1u << 8, "_HPX type 3");
+static_assert(SLIPWATTLE_SUPPORT_ALL_3_0 == (1u << 5) - 1 && SLIPWATTLE_SUPPORT_ALL_3_3 == (1u << 9) - 1, "support bits 0 to 4 and 0 to 8");
+static_assert(SLIPWATTLE_EDITION_3_0 == 0 && SLIPWATTLE_EDITION_3_3 == 1, "the editions");
 static_assert(SLIPWATTLE_QUERY_FLAG == 1u << 0, "the query flag");
 
 /* The code types by their numbers in document 000, and 16 MiB. */
@@ -135,15 +147,24 @@ static slipwattle_bridge bridge(uint8_t n) {
     return b;
 }
 
-/* A row of segment 0, Express, that permits every control bit. */
+/* A row of segment 0, Express, edition 3.0, that permits every control bit. */
 static slipwattle_bridge_row row(uint8_t owner, uint8_t first_bus, uint8_t last_bus) {
     slipwattle_bridge_row r;
-    r.permitted = SLIPWATTLE_CONTROL_ALL;
+    r.permitted = SLIPWATTLE_CONTROL_ALL_3_0;
     r.segment = 0;
     r.owner = session(owner);
     r.first_bus = first_bus;
     r.last_bus = last_bus;
     r.kind = SLIPWATTLE_KIND_EXPRESS;
+    r.edition = SLIPWATTLE_EDITION_3_0;
+    return r;
+}
+
+/* The same of edition 3.3. */
+static slipwattle_bridge_row row_3_3(uint8_t owner, uint8_t first_bus, uint8_t last_bus) {
+    slipwattle_bridge_row r = row(owner, first_bus, last_bus);
+    r.permitted = SLIPWATTLE_CONTROL_ALL_3_3;
+    r.edition = SLIPWATTLE_EDITION_3_3;
     return r;
 }
 
@@ -154,7 +175,7 @@ static bool same_table(const slipwattle_table *a, const slipwattle_table *b) {
         const slipwattle_host_bridge *x = &a->bridges[i];
         const slipwattle_host_bridge *y = &b->bridges[i];
         if (x->base != y->base || x->permitted != y->permitted || x->held != y->held || x->supported != y->supported || x->segment != y->segment ||
-            x->owner.number != y->owner.number || x->first_bus != y->first_bus || x->last_bus != y->last_bus) {
+            x->owner.number != y->owner.number || x->first_bus != y->first_bus || x->last_bus != y->last_bus || x->edition != y->edition) {
             return false;
         }
     }
@@ -236,7 +257,7 @@ static uint8_t start_one(slipwattle_bridge_row r, uint32_t permitted, uint8_t ki
 }
 
 static void judges_each_field_of_a_row(void) {
-    const uint32_t all = SLIPWATTLE_CONTROL_ALL, shpc = SLIPWATTLE_CONTROL_SHPC_HOT_PLUG;
+    const uint32_t all = SLIPWATTLE_CONTROL_ALL_3_0, shpc = SLIPWATTLE_CONTROL_SHPC_HOT_PLUG;
     slipwattle_bridge_row r = row(1, 0, 15);
     CHECK(start_one(r, all, 0) == 0);
     CHECK(start_one(r, all + 1, 0) == 7);
@@ -256,6 +277,44 @@ static void judges_each_field_of_a_row(void) {
     CHECK(start(&r, 1, false).number == 6);
 }
 
+/* Each bit by itself, of either edition and of either kind. */
+static void judges_each_permitted_bit(void) {
+    slipwattle_bridge_row r_3_0 = row(1, 0, 15), r_3_3 = row_3_3(1, 0, 15);
+    uint32_t k;
+    for (k = 0; k < 32; k++) {
+        CHECK(start_one(r_3_0, 1u << k, 0) == (k <= 4 ? 0 : 7));
+        CHECK(start_one(r_3_3, 1u << k, 0) == (k <= 9 ? 0 : 7));
+        CHECK(start_one(r_3_0, 1u << k, 1) == (k == 1 ? 0 : 7));
+        CHECK(start_one(r_3_3, 1u << k, 1) == (k == 1 ? 0 : 7));
+    }
+    CHECK(start_one(r_3_0, 0x1F, 0) == 0);
+    CHECK(start_one(r_3_0, 0x20, 0) == 7);
+    CHECK(start_one(r_3_0, 0x3FF, 0) == 7);
+    CHECK(start_one(r_3_3, 0x3FF, 0) == 0);
+    CHECK(start_one(r_3_3, 0x400, 0) == 7);
+    CHECK(start_one(r_3_3, 0x7FF, 0) == 7);
+    CHECK(start_one(r_3_3, 0, 1) == 0);
+    CHECK(start_one(r_3_3, 0x02, 1) == 0);
+    CHECK(start_one(r_3_3, 0x12, 1) == 7);
+    CHECK(start_one(r_3_3, 0x202, 1) == 7);
+    CHECK(start_one(r_3_3, 0x02, 2) == 7);
+}
+
+static void judges_each_edition(void) {
+    slipwattle_bridge_row rows[2];
+    slipwattle_started s;
+    unsigned k;
+    rows[0] = row(1, 0, 15);
+    rows[1] = row(2, 16, 31);
+    for (k = 0; k < 256; k++) {
+        rows[1].edition = (uint8_t)k;
+        s = start(rows, 2, true);
+        CHECK(k <= 1 ? s.number == 0 && s.table.count == 2 : s.number == 7 && s.table.count == 0);
+        CHECK(start_one(rows[1], 0, SLIPWATTLE_KIND_CONVENTIONAL) == (k <= 1 ? 0 : 7));
+        CHECK(start(rows, 2, false).number == 6);
+    }
+}
+
 static void keeps_each_field_of_a_row(void) {
     slipwattle_bridge_row r[2];
     slipwattle_started s;
@@ -263,27 +322,42 @@ static void keeps_each_field_of_a_row(void) {
     r[0] = row(1, 0, 15);
     r[1] = row(9, 32, 47);
     r[1].permitted = SLIPWATTLE_CONTROL_PME;
+    r[1].edition = SLIPWATTLE_EDITION_3_3;
     s = start(r, 2, true);
     CHECK(s.number == 0 && s.table.count == 2);
     CHECK(b->base == 0xE0000000u && b->permitted == SLIPWATTLE_CONTROL_PME && b->held == 0 && b->supported == 0);
-    CHECK(b->segment == 0 && b->owner.number == 9 && b->first_bus == 32 && b->last_bus == 47);
+    CHECK(b->segment == 0 && b->owner.number == 9 && b->first_bus == 32 && b->last_bus == 47 && b->edition == SLIPWATTLE_EDITION_3_3);
+    CHECK(s.table.bridges[0].edition == SLIPWATTLE_EDITION_3_0);
     r[1].first_bus = 15;
     s = start(r, 2, true);
     CHECK(s.number == 7 && s.table.count == 0);
 }
 
-/* A taking call, or with the flag a query; gives its number, and where that is 0 the answer. */
-static uint8_t osc(slipwattle_table *t, uint8_t s, uint8_t b, uint32_t flag, uint32_t control, uint8_t answer[12]) {
-    uint8_t caps[12] = {0, 0, 0, 0, 0x1F, 0, 0, 0, 0, 0, 0, 0};
-    caps[0] = (uint8_t)flag;
-    caps[8] = (uint8_t)control;
+/* Three DWORDs, little-endian. */
+static void write_dwords(uint8_t bytes[12], uint32_t status, uint32_t support, uint32_t control) {
+    const uint32_t dwords[3] = {status, support, control};
+    size_t i;
+    for (i = 0; i < 12; i++) {
+        bytes[i] = (uint8_t)(dwords[i / 4] >> 8 * (i % 4));
+    }
+}
+
+/* A taking call with these support bits, or with the flag a query; gives its number, and where that is 0 the answer. */
+static uint8_t osc_with(slipwattle_table *t, uint8_t s, uint8_t b, uint32_t flag, uint32_t support, uint32_t control, uint8_t answer[12]) {
+    uint8_t caps[12];
+    write_dwords(caps, flag, support, control);
     return slipwattle_osc(t, session(s), bridge(b), SLIPWATTLE_OSC_REVISION, SLIPWATTLE_OSC_COUNT, SLIPWATTLE_OSC_UUID,
                           sizeof SLIPWATTLE_OSC_UUID, caps, sizeof caps, answer, 12);
 }
 
+/* The same with the support bits of edition 3.0. */
+static uint8_t osc(slipwattle_table *t, uint8_t s, uint8_t b, uint32_t flag, uint32_t control, uint8_t answer[12]) {
+    return osc_with(t, s, b, flag, SLIPWATTLE_SUPPORT_ALL_3_0, control, answer);
+}
+
 static void negotiates(slipwattle_table *t) {
     static const uint8_t granted[12] = {0, 0, 0, 0, 0x1F, 0, 0, 0, 0x1F, 0, 0, 0};
-    const uint32_t all = SLIPWATTLE_CONTROL_ALL, no_capability = all ^ SLIPWATTLE_CONTROL_EXPRESS_CAPABILITY ^ SLIPWATTLE_CONTROL_SHPC_HOT_PLUG;
+    const uint32_t all = SLIPWATTLE_CONTROL_ALL_3_0, no_capability = all ^ SLIPWATTLE_CONTROL_EXPRESS_CAPABILITY ^ SLIPWATTLE_CONTROL_SHPC_HOT_PLUG;
     uint8_t answer[12];
     slipwattle_table before = *t;
     slipwattle_reported r;
@@ -299,6 +373,183 @@ static void negotiates(slipwattle_table *t) {
     CHECK(osc(t, 1, 0, 0, no_capability, answer) == 0 && answer[0] == 0 && answer[8] == no_capability);
     r = slipwattle_report(t, session(1), bridge(0));
     CHECK(r.number == 0 && r.holding.held == all && r.holding.supported == 0x1F);
+}
+
+/* A taking call on bridge b by its owner, session b + 1, or with the flag a query: whether it grants these bits, with the support bits as they came. */
+static bool grants(slipwattle_table *t, uint8_t b, uint32_t flag, uint32_t requested, uint32_t support, uint32_t granted) {
+    uint8_t answer[12], expected[12];
+    write_dwords(expected, requested == granted ? 0 : SLIPWATTLE_STATUS_MASKED, support, granted);
+    memset(answer, 0xAA, sizeof answer);
+    return osc_with(t, (uint8_t)(b + 1), b, flag, support, requested, answer) == 0 && memcmp(answer, expected, 12) == 0;
+}
+
+static bool holds(const slipwattle_table *t, uint8_t b, uint32_t held, uint32_t supported) {
+    slipwattle_reported r = slipwattle_report(t, session((uint8_t)(b + 1)), bridge(b));
+    return r.number == 0 && r.holding.held == held && r.holding.supported == supported;
+}
+
+/* On a new bridge of this row: permitted, requested, support, granted. A query changes nothing, a taking call gives the same. */
+static bool grants_at_first(slipwattle_bridge_row r, const uint32_t line[4]) {
+    slipwattle_started s;
+    slipwattle_table before;
+    r.permitted = line[0];
+    s = start(&r, 1, true);
+    before = s.table;
+    if (!grants(&s.table, 0, SLIPWATTLE_QUERY_FLAG, line[1], line[2], line[3]) || !same_table(&s.table, &before)) {
+        return false;
+    }
+    return grants(&s.table, 0, 0, line[1], line[2], line[3]) && s.table.bridges[0].held == line[3];
+}
+
+static void grants_by_the_needs_of_3_3(void) {
+    static const uint32_t lines[47][4] = {
+        /* permitted, requested, support, granted: each bit with what it needs and nothing else */
+        {0x011, 0x011, 0, 0x011}, {0x012, 0x012, 0, 0x012}, {0x014, 0x014, 0, 0x014}, {0x098, 0x098, 0x80, 0x098}, {0x010, 0x010, 0, 0x010},
+        {0x030, 0x030, 0, 0x030}, {0x040, 0x040, 0, 0x040}, {0x110, 0x110, 0, 0x110}, {0x200, 0x200, 0, 0x200},
+        /* by itself */
+        {0x3FF, 0x001, 0x1FF, 0}, {0x3FF, 0x002, 0x1FF, 0}, {0x3FF, 0x004, 0x1FF, 0}, {0x3FF, 0x008, 0x1FF, 0}, {0x3FF, 0x010, 0x1FF, 0x010},
+        {0x3FF, 0x020, 0x1FF, 0}, {0x3FF, 0x040, 0x1FF, 0x040}, {0x3FF, 0x080, 0x1FF, 0}, {0x3FF, 0x100, 0x1FF, 0}, {0x3FF, 0x200, 0x1FF, 0x200},
+        /* all, and all but bit 3, 4 or 7, or support bit 7 */
+        {0x3FF, 0x3FF, 0x80, 0x3FF}, {0x3FF, 0x3F7, 0x1FF, 0x377}, {0x3FF, 0x3EF, 0x1FF, 0x240}, {0x3FF, 0x37F, 0x1FF, 0x377}, {0x3FF, 0x3FF, 0x17F, 0x377},
+        {0x3FF, 0x3FF, 0x1F, 0x377},
+        /* bits 3, 4 and 7, and what is missing of them */
+        {0x3FF, 0x098, 0x80, 0x098}, {0x3FF, 0x018, 0x80, 0x010}, {0x3FF, 0x090, 0x80, 0x010}, {0x3FF, 0x088, 0x80, 0}, {0x3FF, 0x098, 0, 0x010},
+        {0x3FF, 0x098, 0xFFFFFF7Fu, 0x010},
+        /* one bit is not permitted */
+        {0x3FE, 0x3FF, 0x1FF, 0x3FE}, {0x3FD, 0x3FF, 0x1FF, 0x3FD}, {0x3FB, 0x3FF, 0x1FF, 0x3FB}, {0x3F7, 0x3FF, 0x1FF, 0x377}, {0x3EF, 0x3FF, 0x1FF, 0x240},
+        {0x3DF, 0x3FF, 0x1FF, 0x3DF}, {0x3BF, 0x3FF, 0x1FF, 0x3BF}, {0x37F, 0x3FF, 0x1FF, 0x377}, {0x2FF, 0x3FF, 0x1FF, 0x2FF}, {0x1FF, 0x3FF, 0x1FF, 0x1FF},
+        /* those of edition 3.0 alone, none, and bits that are not known */
+        {0x01F, 0x01F, 0x1FF, 0x017}, {0, 0x3FF, 0x1FF, 0}, {0x3FF, 0, 0, 0}, {0x3FF, 0x400, 0x1FF, 0}, {0x3FF, 0x7FF, 0x80, 0x3FF},
+        {0x3FF, 0xFFFFFFFFu, 0xFFFFFFFFu, 0x3FF},
+    };
+    size_t k;
+    for (k = 0; k < 47; k++) {
+        CHECK(grants_at_first(row_3_3(1, 0, 15), lines[k]));
+    }
+}
+
+static void grants_by_the_needs_of_3_0(void) {
+    static const uint32_t lines[16][4] = {
+        /* permitted, requested, support, granted: the bench sheet of document 01 */
+        {0x1F, 0x1F, 0x1F, 0x1F}, {0x1F, 0x0D, 0, 0}, {0x0F, 0x1F, 0, 0x02}, {0x1F, 0x3F, 0, 0x1F},
+        /* each bit with what it needs and nothing else, and by itself */
+        {0x11, 0x11, 0, 0x11}, {0x02, 0x02, 0, 0x02}, {0x14, 0x14, 0, 0x14}, {0x18, 0x18, 0, 0x18}, {0x10, 0x10, 0, 0x10},
+        {0x1F, 0x01, 0x1FF, 0}, {0x1F, 0x04, 0x1FF, 0}, {0x1F, 0x08, 0x1FF, 0},
+        /* the bits of edition 3.3 are not known */
+        {0x1F, 0x98, 0x80, 0x18}, {0x1F, 0x20, 0x1FF, 0}, {0x1F, 0x240, 0x1FF, 0}, {0x1F, 0x3FF, 0x1FF, 0x1F},
+    };
+    size_t k;
+    for (k = 0; k < 16; k++) {
+        CHECK(grants_at_first(row(1, 0, 15), lines[k]));
+    }
+}
+
+/* A conventional row permits no bit 4, which SHPC hot plug needs in edition 3.3. */
+static void grants_by_conventional_rows(void) {
+    static const uint32_t lines[2][2][4] = {{{0x02, 0x02, 0, 0x02}, {0x02, 0x12, 0x1FF, 0x02}}, {{0x02, 0x02, 0, 0}, {0x02, 0x12, 0x1FF, 0}}};
+    slipwattle_bridge_row rows[2];
+    size_t k;
+    rows[0] = row(1, 0, 15);
+    rows[1] = row_3_3(1, 0, 15);
+    for (k = 0; k < 2; k++) {
+        rows[k].kind = SLIPWATTLE_KIND_CONVENTIONAL;
+        CHECK(grants_at_first(rows[k], lines[k][0]));
+        CHECK(grants_at_first(rows[k], lines[k][1]));
+    }
+}
+
+/* On one bridge of edition 3.3 that permits every bit. */
+static void counts_what_is_held_and_declared(void) {
+    slipwattle_bridge_row r = row_3_3(1, 0, 15);
+    slipwattle_started s = start(&r, 1, true);
+    slipwattle_table *t = &s.table;
+    /* A query declares support for itself alone, a taking call for later ones too, up to a reset. */
+    CHECK(grants(t, 0, SLIPWATTLE_QUERY_FLAG, 0x98, 0x80, 0x98));
+    CHECK(grants(t, 0, 0, 0x98, 0, 0x10) && holds(t, 0, 0x10, 0));
+    CHECK(grants(t, 0, 0, 0, 0x80, 0) && holds(t, 0, 0x10, 0x80));
+    CHECK(grants(t, 0, SLIPWATTLE_QUERY_FLAG, 0x98, 0, 0x98));
+    CHECK(slipwattle_reset(t, session(1), bridge(0)) == 0 && holds(t, 0, 0, 0));
+    CHECK(grants(t, 0, SLIPWATTLE_QUERY_FLAG, 0x98, 0, 0x10));
+    CHECK(grants(t, 0, 0, 0, 0x80, 0) && holds(t, 0, 0, 0x80));
+    CHECK(grants(t, 0, 0, 0x98, 0, 0x98) && holds(t, 0, 0x98, 0x80));
+    /* A held bit needs nothing. */
+    CHECK(grants(t, 0, 0, 0x08, 0, 0x08));
+    CHECK(grants(t, 0, 0, 0x80, 0, 0x80));
+    CHECK(grants(t, 0, 0, 0x88, 0, 0x88));
+    /* A new one needs bit 4 in the same call, though bit 4 is held. */
+    CHECK(grants(t, 0, 0, 0x01, 0, 0));
+    CHECK(grants(t, 0, 0, 0x89, 0, 0x88) && holds(t, 0, 0x98, 0x80));
+    CHECK(grants(t, 0, 0, 0x11, 0, 0x11) && holds(t, 0, 0x99, 0x80));
+}
+
+/* Two queries and a taking call, on one bridge of edition 3.3. */
+static void negotiates_with_the_same_support(void) {
+    slipwattle_bridge_row r = row_3_3(1, 0, 15);
+    slipwattle_started s;
+    slipwattle_table *t = &s.table;
+    r.permitted = 0x1FF;
+    s = start(&r, 1, true);
+    CHECK(grants(t, 0, SLIPWATTLE_QUERY_FLAG, 0x3FF, 0x80, 0x1FF));
+    CHECK(grants(t, 0, SLIPWATTLE_QUERY_FLAG, 0x1FF, 0x80, 0x1FF));
+    CHECK(grants(t, 0, 0, 0x1FF, 0x80, 0x1FF) && holds(t, 0, 0x1FF, 0x80));
+    CHECK(slipwattle_reset(t, session(1), bridge(0)) == 0);
+    CHECK(grants(t, 0, SLIPWATTLE_QUERY_FLAG, 0x3FF, 0x17F, 0x177));
+    CHECK(grants(t, 0, SLIPWATTLE_QUERY_FLAG, 0x177, 0x17F, 0x177));
+    CHECK(grants(t, 0, 0, 0x177, 0x17F, 0x177) && holds(t, 0, 0x177, 0x17F));
+    CHECK(slipwattle_reset(t, session(1), bridge(0)) == 0);
+    /* With another support field the second answer is masked. */
+    CHECK(grants(t, 0, SLIPWATTLE_QUERY_FLAG, 0x98, 0x80, 0x98));
+    CHECK(grants(t, 0, SLIPWATTLE_QUERY_FLAG, 0x98, 0, 0x10));
+}
+
+/* Bridge 0 is of edition 3.0, bridge 1 of edition 3.3. */
+static bool has_both_editions(const slipwattle_table *t) {
+    return t->count == 2 && t->bridges[0].edition == SLIPWATTLE_EDITION_3_0 && t->bridges[1].edition == SLIPWATTLE_EDITION_3_3;
+}
+
+static slipwattle_started start_both_editions(void) {
+    slipwattle_bridge_row rows[2];
+    rows[0] = row(1, 0, 15);
+    rows[1] = row_3_3(2, 16, 31);
+    return start(rows, 2, true);
+}
+
+static void answers_by_each_edition(void) {
+    slipwattle_started s = start_both_editions();
+    slipwattle_table *t = &s.table;
+    CHECK(s.number == 0 && has_both_editions(t));
+    CHECK(grants(t, 0, SLIPWATTLE_QUERY_FLAG, 0x02, 0, 0x02) && grants(t, 1, SLIPWATTLE_QUERY_FLAG, 0x02, 0, 0));
+    CHECK(grants(t, 0, SLIPWATTLE_QUERY_FLAG, 0x18, 0x80, 0x18) && grants(t, 1, SLIPWATTLE_QUERY_FLAG, 0x18, 0x80, 0x10));
+    CHECK(grants(t, 0, SLIPWATTLE_QUERY_FLAG, 0x98, 0x80, 0x18) && grants(t, 1, SLIPWATTLE_QUERY_FLAG, 0x98, 0x80, 0x98));
+    CHECK(holds(t, 0, 0, 0) && holds(t, 1, 0, 0));
+    /* Known support bits are stored, and join those of earlier calls. */
+    CHECK(grants(t, 0, 0, 0, 0x101, 0) && grants(t, 1, 0, 0, 0x101, 0));
+    CHECK(holds(t, 0, 0, 0x01) && holds(t, 1, 0, 0x101));
+    CHECK(grants(t, 0, 0, 0x3FF, 0x3FF, 0x1F) && holds(t, 0, 0x1F, 0x1F) && holds(t, 1, 0, 0x101));
+    CHECK(grants(t, 1, 0, 0x3FF, 0x3FF, 0x3FF) && holds(t, 0, 0x1F, 0x1F) && holds(t, 1, 0x3FF, 0x1FF));
+    CHECK(slipwattle_reset(t, session(1), bridge(0)) == 0 && holds(t, 0, 0, 0) && holds(t, 1, 0x3FF, 0x1FF));
+    CHECK(grants(t, 0, 0, 0, 0xFFFFFFFFu, 0) && holds(t, 0, 0, 0x1F));
+    CHECK(slipwattle_reset(t, session(2), bridge(1)) == 0 && holds(t, 0, 0, 0x1F) && holds(t, 1, 0, 0));
+    CHECK(grants(t, 1, 0, 0, 0xFFFFFFFFu, 0) && holds(t, 1, 0, 0x1FF));
+}
+
+/* Each call that takes a table, on either bridge, by its owner and by the other session. */
+static void leaves_each_edition(void) {
+    static const uint32_t current[SLIPWATTLE_REGISTERS] = {0};
+    slipwattle_started s = start_both_editions();
+    slipwattle_table *t = &s.table;
+    uint8_t answer[12], k;
+    for (k = 0; k < 4; k++) {
+        const uint8_t b = k % 2, by = (uint8_t)(k / 2 + 1);
+        const bool own = by == b + 1;
+        CHECK(osc_with(t, by, b, SLIPWATTLE_QUERY_FLAG, 0x3FF, 0x3FF, answer) == (own ? 0 : 2) && has_both_editions(t));
+        CHECK(osc_with(t, by, b, 0, 0x3FF, 0x3FF, answer) == (own ? 0 : 2) && has_both_editions(t));
+        CHECK(slipwattle_report(t, session(by), bridge(b)).number == (own ? 0 : 2) && has_both_editions(t));
+        CHECK(slipwattle_address(t, session(by), bridge(b), 16u * b, 0, 0, 0, 4).number == (own ? 0 : 2) && has_both_editions(t));
+        CHECK(slipwattle_locate(t, session(by), 0xE0000000u + 0x1000000u * b).number == (own ? 0 : 4) && has_both_editions(t));
+        CHECK(slipwattle_register_values(t, session(by), bridge(b), NULL, 0, NULL, 0, current, 8).number == (own ? 9 : 2) && has_both_editions(t));
+        CHECK(slipwattle_reset(t, session(by), bridge(b)) == (own ? 0 : 2) && has_both_editions(t));
+    }
 }
 
 /* A taking call of session 1 for nothing, with these lengths; gives its number, or where that is 0 the answer's status and 256. */
@@ -342,8 +593,8 @@ static void is_refused(slipwattle_table *t) {
     slipwattle_addressed a;
     size_t i;
     memset(answer, 0xAA, sizeof answer);
-    CHECK(osc(t, 1, 1, 0, SLIPWATTLE_CONTROL_ALL, answer) == 2);
-    CHECK(osc(t, 1, 2, 0, SLIPWATTLE_CONTROL_ALL, answer) == 1);
+    CHECK(osc(t, 1, 1, 0, SLIPWATTLE_CONTROL_ALL_3_0, answer) == 2);
+    CHECK(osc(t, 1, 2, 0, SLIPWATTLE_CONTROL_ALL_3_0, answer) == 1);
     CHECK(slipwattle_osc(t, session(1), bridge(0), 1, 3, SLIPWATTLE_OSC_UUID, 15, capabilities, 12, answer, 12) == 3);
     CHECK(slipwattle_reset(t, session(1), bridge(1)) == 2);
     CHECK(slipwattle_reset(t, session(1), bridge(255)) == 1);
@@ -987,6 +1238,24 @@ static void computes_register_values(slipwattle_table *t) {
     CHECK(v.number == 0 && v.values[0] == 6 && v.values[4] == 0xFFF6 && v.values[7] == 6);
 }
 
+/* On one bridge of edition 3.3, which holds AER with downstream port containment or not at all. */
+static void computes_by_edition_3_3(void) {
+    static const uint32_t current[SLIPWATTLE_REGISTERS] = {1, 2, 3, 4, 0x2110, 6, 7, 8};
+    slipwattle_bridge_row r = row_3_3(1, 0, 15);
+    slipwattle_started s = start(&r, 1, true);
+    uint8_t settings[71];
+    slipwattle_values v;
+    write_settings(settings);
+    CHECK(grants(&s.table, 0, 0, 0x98, 0x80, 0x98));
+    CHECK(slipwattle_register_values(&s.table, session(1), bridge(0), settings, 71, NULL, 0, current, 8).number == 11);
+    CHECK(grants(&s.table, 0, 0, 0x11, 0, 0x11));
+    v = slipwattle_register_values(&s.table, session(1), bridge(0), settings, 71, NULL, 0, current, 8);
+    CHECK(v.number == 0 && v.values[0] == 1 && v.values[4] == 0x2116 && v.values[7] == 8);
+    CHECK(slipwattle_reset(&s.table, session(1), bridge(0)) == 0 && grants(&s.table, 0, 0, 0x19, 0x80, 0x11));
+    v = slipwattle_register_values(&s.table, session(1), bridge(0), settings, 71, NULL, 0, current, 8);
+    CHECK(v.number == 0 && v.values[0] == 6 && v.values[4] == 0x2116 && v.values[7] == 6);
+}
+
 /* Bits 5 to 7 and 12 to 14 of Device Control stay; bridge 0 holds no AER. */
 static void keeps_payload_sizes(const slipwattle_table *t) {
     static const uint16_t lines[4][5] = {
@@ -1107,6 +1376,20 @@ static void takes_no_table(void) {
     finds_images_in_16_mib();
 }
 
+/* Edition 3.3 of the control field, and tables with both editions. */
+static void has_two_editions(void) {
+    judges_each_permitted_bit();
+    judges_each_edition();
+    grants_by_the_needs_of_3_3();
+    grants_by_the_needs_of_3_0();
+    grants_by_conventional_rows();
+    counts_what_is_held_and_declared();
+    negotiates_with_the_same_support();
+    answers_by_each_edition();
+    leaves_each_edition();
+    computes_by_edition_3_3();
+}
+
 int main(void) {
     slipwattle_bridge_row rows[2];
     slipwattle_started s;
@@ -1118,6 +1401,7 @@ int main(void) {
     starts_up_to_64_rows();
     judges_each_field_of_a_row();
     keeps_each_field_of_a_row();
+    has_two_editions();
     negotiates(&s.table);
     frames(&s.table);
     is_refused(&s.table);

@@ -54,12 +54,12 @@ pub fn fields(block: &[u8]) -> Vec<Range<usize>> {
     fields
 }
 
-/// A number not above the limit, which is one less than a power of two.
+/// A number not above the limit, which is one less than a power of two: at times 0, or the limit.
 pub fn number_within(random: &mut Random, limit: u32) -> u32 {
-    if random.one_in(4) {
-        limit
-    } else {
-        random.word() & limit
+    match random.below(8) {
+        0 => 0,
+        1 | 2 => limit,
+        _ => random.word() & limit,
     }
 }
 

@@ -1,9 +1,11 @@
 //! Runs a list on two programs and compares after every call.
 
+use std::mem;
 use std::panic::{AssertUnwindSafe, catch_unwind};
 
 use crate::call::{Call, FindRecord, Report, WriteRecords};
 use crate::given::{Given, Handed};
+use crate::row::Row;
 use crate::service::{Pair, Service};
 use crate::settings::Settings;
 
@@ -46,6 +48,10 @@ pub struct Agreed<'a> {
     /// The call as it was left.
     pub call: &'a Call,
     pub given: Given,
+    /// The rows of the last start.
+    pub rows: &'a [Row],
+    /// The reports on all bridges before it.
+    pub before: &'a [Given],
     /// The reports on all bridges after it.
     pub reports: &'a [Given],
 }
@@ -54,18 +60,20 @@ pub struct Agreed<'a> {
 /// not take is left out.
 pub fn compare(list: &[Call], pair: &mut Pair, seen: &mut dyn FnMut(Agreed)) -> Option<Difference> {
     let names = [pair.left.name(), pair.right.name()];
-    let mut owners = Vec::new();
+    let mut rows: Vec<Row> = Vec::new();
+    let mut before = Vec::new();
     let mut reports = Vec::new();
     for (at, call) in list.iter().enumerate() {
         if !pair.takes(call) {
             continue;
         }
         if let Call::Start(start) = call {
-            let rows = start.rows.lent().iter().take(usize::from(u8::MAX));
-            owners = rows.map(|row| row.owner).collect();
+            let lent = start.rows.lent().iter();
+            rows = lent.take(usize::from(u8::MAX)).copied().collect();
         }
+        mem::swap(&mut before, &mut reports);
         let checked = compare_call(call, pair).and_then(|(left, given)| {
-            compare_holdings(&owners, pair, &mut reports)?;
+            compare_holdings(&rows, pair, &mut reports)?;
             Ok((left, given))
         });
         match checked {
@@ -73,6 +81,8 @@ pub fn compare(list: &[Call], pair: &mut Pair, seen: &mut dyn FnMut(Agreed)) -> 
             Ok((left, given)) => seen(Agreed {
                 call: &left,
                 given,
+                rows: &rows,
+                before: &before,
                 reports: &reports,
             }),
         }
@@ -146,10 +156,10 @@ fn made(service: &mut dyn Service, call: &mut Call) -> Option<Given> {
 }
 
 /// Reports on every bridge under its owner, and on one bridge number after them.
-fn compare_holdings(owners: &[u8], pair: &mut Pair, reports: &mut Vec<Given>) -> Result<(), What> {
+fn compare_holdings(rows: &[Row], pair: &mut Pair, reports: &mut Vec<Given>) -> Result<(), What> {
     reports.clear();
-    for bridge in 0..=owners.len() {
-        let owner = owners.get(bridge).copied().unwrap_or(0);
+    for bridge in 0..=rows.len() {
+        let owner = rows.get(bridge).map_or(0, |row| row.owner);
         let bridge = bridge as u8;
         let report = |service: &mut dyn Service| {
             let session = owner;

@@ -5,17 +5,20 @@ use std::fmt;
 use crate::blocks::{self, DEVICE_CONTROL, PAYLOAD_SIZES};
 use crate::call::{Call, FindImage, KINDS, LISTED, Osc, RegisterValues, WriteRecords};
 use crate::comparison::Agreed;
+use crate::editions::Asked;
 use crate::given::Handed;
 use crate::roms;
+use crate::row::Row;
 use crate::settings::TYPES;
+use crate::ways::WAYS;
 
 const NUMBERS: usize = 16;
 /// A run of this many calls must give every listed number of every call at least `LEAST` times.
 pub const FULL_RUN: u64 = 200_000;
 pub const LEAST: u64 = 1_000;
 
-/// What is counted beside the numbers.
-const ANSWERS: [&str; 26] = [
+/// What is counted beside the numbers, with the ways of right _OSC calls.
+const ANSWERS: [&str; 27] = [
     "_OSC status 0x00",
     "_OSC status 0x02",
     "_OSC status 0x04",
@@ -42,6 +45,7 @@ const ANSWERS: [&str; 26] = [
     "14 by a senseless pair",
     "an absent senseless pair",
     "senseless in another revision",
+    "start, rows of both editions",
 ];
 const AER: u32 = 1 << 3;
 
@@ -49,6 +53,7 @@ const AER: u32 = 1 << 3;
 pub struct Counts {
     numbers: [[u64; NUMBERS]; KINDS.len()],
     answers: [u64; ANSWERS.len()],
+    ways: [u64; WAYS.len()],
 }
 
 impl Counts {
@@ -91,7 +96,8 @@ impl Counts {
 
     fn note_answer(&mut self, agreed: &Agreed) {
         match (agreed.call, agreed.given.handed) {
-            (Call::Osc(call), _) => self.note_status(call),
+            (Call::Start(_), _) => self.answers[26] += u64::from(mixes_editions(agreed.rows)),
+            (Call::Osc(call), _) => self.note_osc(call, agreed),
             (Call::FindRecord(_), Handed::Record { in_slot, .. }) => {
                 self.answers[if in_slot { 7 } else { 8 }] += 1;
             }
@@ -116,7 +122,7 @@ impl Counts {
         }
     }
 
-    fn note_status(&mut self, call: &Osc) {
+    fn note_osc(&mut self, call: &Osc, agreed: &Agreed) {
         let statuses = [0x00, 0x02, 0x04, 0x08, 0x10];
         let status = call.answer.lent()[0];
         if let Some(answer) = statuses.iter().position(|known| *known == status) {
@@ -125,7 +131,19 @@ impl Counts {
         if matches!(status, 0x00 | 0x10) {
             let query = call.capabilities.lent()[0] & 1 == 1;
             self.answers[if query { 5 } else { 6 }] += 1;
+            let bridge = usize::from(call.bridge);
+            let asked = Asked::new(call, &agreed.rows[bridge], agreed.before[bridge].handed);
+            for (count, (_, comes_out_so)) in self.ways.iter_mut().zip(WAYS) {
+                *count += u64::from(comes_out_so(&asked));
+            }
         }
+    }
+
+    /// What is counted beside the numbers, with its counts.
+    fn beside(&self) -> impl Iterator<Item = (&'static str, u64)> {
+        let answers = ANSWERS.into_iter().zip(self.answers);
+        let ways = WAYS.into_iter().map(|(name, _)| name).zip(self.ways);
+        answers.chain(ways)
     }
 
     /// The listed numbers, and the answers, that came fewer than `LEAST` times.
@@ -139,13 +157,17 @@ impl Counts {
                 }
             }
         }
-        for (answer, count) in ANSWERS.iter().zip(self.answers) {
+        for (answer, count) in self.beside() {
             if count < LEAST {
                 rare.push(format!("{answer}: {count} times"));
             }
         }
         rare
     }
+}
+
+fn mixes_editions(rows: &[Row]) -> bool {
+    rows.iter().any(|row| row.edition != rows[0].edition)
 }
 
 /// Whether the record's pair would change the payload sizes of Device Control.
@@ -185,7 +207,7 @@ impl fmt::Display for Counts {
                 }
             }
         }
-        for (answer, count) in ANSWERS.iter().zip(self.answers) {
+        for (answer, count) in self.beside() {
             write!(f, "\n{answer:<31}{count:>9}")?;
         }
         Ok(())

@@ -2,6 +2,7 @@
 
 use crate::blocks;
 use crate::call::{Call, FindRecord, Locate, RegisterValues, Report, Reset, Start};
+use crate::editions::EDITION_3_3;
 use crate::mcfg::{self, Entry, MOST_ENTRIES};
 use crate::places;
 use crate::random::Random;
@@ -165,7 +166,7 @@ pub fn any_list(random: &mut Random) -> Vec<Call> {
     let calls = if spoil_mcfg || spoil_rows {
         random.between(2, 6)
     } else {
-        random.between(10, 50)
+        random.between(10, 54)
     };
     if calls > 6 {
         take_control(random, &plan, &mut list);
@@ -176,14 +177,19 @@ pub fn any_list(random: &mut Random) -> Vec<Call> {
     list
 }
 
-/// A taking call on each of a few bridges, or on about 8 of many, so that register values are computed with AER and without.
+/// A taking call, or some, on each of a few bridges, or on about 8 of many, so that register values are computed with AER and without.
 fn take_control(random: &mut Random, plan: &Plan, list: &mut Vec<Call>) {
     for (bridge, row) in plan.rows.iter().enumerate() {
         if random.below(plan.rows.len()) >= 8 {
             continue;
         }
-        let control = random.pick(&[0x1F, 0x17, 0x11, 0x19]);
-        let call = requests::right_call(row.owner, bridge as u8, 0, random.word(), control);
-        list.push(call.into());
+        let dwords = match row.edition {
+            EDITION_3_3 => requests::taking_3_3(random),
+            _ => vec![[0, random.word(), random.pick(&[0x1F, 0x17, 0x11, 0x19])]],
+        };
+        let calls = dwords.into_iter().map(|[status, support, control]| {
+            requests::right_call(row.owner, bridge as u8, status, support, control).into()
+        });
+        list.extend(calls);
     }
 }

@@ -4,6 +4,7 @@ use std::process::ExitCode;
 use std::time::Instant;
 
 use trials::counts::{Counts, FULL_RUN, LEAST};
+use trials::editions::Asked;
 use trials::exhaustive::{self, granting, sums};
 use trials::random_trials::{self, Setting};
 use trials::service::{boundary_and_reference, safe_crate_and_reference};
@@ -109,11 +110,9 @@ fn exhaustive_part() -> Result<(), String> {
     let begun = Instant::now();
     let differs = |why: String| format!("an exhaustive comparison differs:\n{why}");
     let mut tell = |name: &str, count: u64| println!("{count:>9}  {name}");
-    let sets = granting::every_set(reference::granted).map_err(differs)?;
-    tell(
-        "every permitted, held and requested set of bits 0 to 5",
-        sets,
-    );
+    for (name, comparison) in granting::COMPARISONS {
+        tell(name, comparison(&Asked::outcome).map_err(differs)?);
+    }
     let strings = sums::every_length(eight_to_a_step).map_err(differs)?;
     tell(
         "the sum of 0 to 64 bytes, and of as many as 0 to 64 entries have",

@@ -21,10 +21,6 @@ impl Random {
         self.long() as u32
     }
 
-    pub fn half(&mut self) -> u16 {
-        self.long() as u16
-    }
-
     pub fn byte(&mut self) -> u8 {
         self.long() as u8
     }

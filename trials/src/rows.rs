@@ -1,5 +1,6 @@
 //! Lists of rows: sound ones, and ones that break a rule or stand at its edge.
 
+use crate::editions::{EDITION_3_3, OLD_EDITION, known_control};
 use crate::mcfg::Entry;
 use crate::random::Random;
 use crate::row::{CONVENTIONAL, EXPRESS, NUMBERS, Row};
@@ -7,8 +8,8 @@ use crate::row::{CONVENTIONAL, EXPRESS, NUMBERS, Row};
 pub const MOST_ROWS: usize = 64;
 pub const HIGHEST_OWNER: u8 = 63;
 
-/// Up to `most` rows inside these entries; sound if they are at most 64. Where many are asked for, each is short, so that there are buses for
-/// all.
+/// Up to `most` rows inside these entries, of both editions; sound if they are at most 64. Where many are asked for, each is short, so that
+/// there are buses for all.
 pub fn sound_rows(random: &mut Random, entries: &[Entry], most: usize) -> Vec<Row> {
     let any = random.between(0, HIGHEST_OWNER.into()) as u8;
     let owners = [0, HIGHEST_OWNER, any];
@@ -24,7 +25,8 @@ pub fn sound_rows(random: &mut Random, entries: &[Entry], most: usize) -> Vec<Ro
         while next <= end && rows.len() < most {
             let first = (next + random.pick(&[0, 0, 0, 1])).min(end);
             let last = (first + random.pick(&more_buses)).min(end);
-            let (kind, permitted) = kind_and_permitted(random);
+            let edition = random.pick(&[OLD_EDITION, EDITION_3_3, EDITION_3_3]);
+            let (kind, permitted) = kind_and_permitted(random, edition);
             rows.push(Row {
                 permitted,
                 segment: entry.segment,
@@ -32,7 +34,8 @@ pub fn sound_rows(random: &mut Random, entries: &[Entry], most: usize) -> Vec<Ro
                 first: first as u8,
                 last: last as u8,
                 kind,
-                unused: random.half(),
+                edition,
+                unused: random.byte(),
             });
             next = last + 1;
         }
@@ -41,15 +44,17 @@ pub fn sound_rows(random: &mut Random, entries: &[Entry], most: usize) -> Vec<Ro
     rows
 }
 
-fn kind_and_permitted(random: &mut Random) -> (u8, u32) {
+fn kind_and_permitted(random: &mut Random, edition: u8) -> (u8, u32) {
     if random.one_in(8) {
         return (CONVENTIONAL, random.pick(&[0, 2]));
     }
-    let any = random.word() & 0x1F;
-    (
-        EXPRESS,
-        random.pick(&[0x1F, 0x1F, 0x1F, 0x1F, 0x17, 0x17, 0x0F, any]),
-    )
+    let all = known_control(edition);
+    let any = random.word() & all;
+    let permitted = match edition {
+        EDITION_3_3 => random.pick(&[all, all, all, all, all, 0x37F, 0x3F7, 0x3EF, 0x1F, any]),
+        _ => random.pick(&[all, all, all, all, 0x17, 0x17, 0x0F, any]),
+    };
+    (EXPRESS, permitted)
 }
 
 /// Rows near these sound ones that break a rule, as a rule.
@@ -80,11 +85,13 @@ fn one_too_many(random: &mut Random, entries: &[Entry]) -> Vec<Row> {
 }
 
 fn spoil_number(random: &mut Random, row: &mut Row) {
-    match random.below(5) {
+    match random.below(7) {
         0 => row.owner = random.pick(&[64, 65, 255, row.owner | 0x40]),
         1 => row.kind = random.pick(&[2, 2, 3, 255, 0x80, row.kind | 0x80]),
-        2 => row.permitted |= 1 << random.pick(&[5, 6, 8, 31]),
-        3 => (row.kind, row.permitted) = (CONVENTIONAL, random.pick(&[1, 3, 4, 8, 0x10, 0x1F])),
+        2 => row.permitted |= unknown_bit(random, row.edition),
+        3 => (row.kind, row.permitted) = (CONVENTIONAL, more_than_bit_1(random, row.edition)),
+        4 => row.edition = random.pick(&[2, 2, 3, 255, 0x80, row.edition | 0x80]),
+        5 => row.edition ^= 1,
         _ => {
             row.segment = random.pick(&[
                 row.segment ^ 1,
@@ -93,6 +100,19 @@ fn spoil_number(random: &mut Random, row: &mut Row) {
             ])
         }
     }
+}
+
+/// A bit that the edition does not know, mostly one of the first.
+fn unknown_bit(random: &mut Random, edition: u8) -> u32 {
+    let beyond = known_control(edition) + 1;
+    random.pick(&[beyond, beyond, beyond << 1, beyond << 3, 1 << 31])
+}
+
+/// Known bits of which one, at least, is not bit 1.
+fn more_than_bit_1(random: &mut Random, edition: u8) -> u32 {
+    let all = known_control(edition);
+    let high = 1 << random.between(2, all.count_ones() as usize - 1);
+    random.pick(&[1, 3, 0x10, 0x12, high, high, all])
 }
 
 /// Buses off by one at either edge of the row or of its entry.

@@ -1,10 +1,12 @@
 //! The shortest list that shows a difference.
 
 use std::iter;
+use std::ops::Range;
 use std::rc::Rc;
 
 use crate::blocks::{self, REGISTERS};
 use crate::call::{Call, Start, WriteRecords};
+use crate::editions::{OLD_EDITION, known_control};
 use crate::mcfg;
 use crate::part::Part;
 use crate::roms::{self, HEADER, Image, LAST, UNIT};
@@ -53,8 +55,10 @@ fn first_simpler(list: &[Call], differs: &mut dyn FnMut(&[Call]) -> bool) -> Opt
     let now = size(list);
     let mut good = |simpler: &Vec<Call>| size(simpler) < now && differs(simpler);
     let without_call = (0..list.len()).rev().map(|index| without(list, index));
+    let without_osc = (0..list.len()).filter_map(|index| without_osc(list, index));
     let without_row = (0..row_count(list)).rev().map(|row| without_row(list, row));
-    if let Some(simpler) = without_call.chain(without_row).find(&mut good) {
+    let mut shorter = without_call.chain(without_osc).chain(without_row);
+    if let Some(simpler) = shorter.find(&mut good) {
         return Some(simpler);
     }
     (0..list.len()).find_map(|index| {
@@ -67,6 +71,25 @@ fn without(list: &[Call], index: usize) -> Vec<Call> {
     let mut shorter = list.to_vec();
     shorter.remove(index);
     shorter
+}
+
+/// The list without an _OSC call, whose support bits the next one on its bridge declares.
+fn without_osc(list: &[Call], index: usize) -> Option<Vec<Call>> {
+    let mut shorter = list.to_vec();
+    let Call::Osc(earlier) = shorter.remove(index) else {
+        return None;
+    };
+    let mut later = shorter[index..].iter_mut();
+    let next = later.find_map(|call| match call {
+        Call::Osc(osc) if osc.bridge == earlier.bridge => Some(osc),
+        _ => None,
+    })?;
+    let support = next.capabilities.lent_mut().get_mut(4..8)?;
+    let told = earlier.capabilities.lent().iter().skip(4);
+    for (byte, told) in support.iter_mut().zip(told) {
+        *byte |= told;
+    }
+    Some(shorter)
 }
 
 fn with(list: &[Call], index: usize, call: Call) -> Vec<Call> {
@@ -101,17 +124,29 @@ fn without_row(list: &[Call], row: usize) -> Vec<Call> {
     changed
 }
 
-/// Calls like this one with one argument simpler, starts with one entry less, and writes of other records or of fewer masks. Each is made
-/// when it is asked for: a long buffer has many.
+/// Calls like this one with one argument simpler, starts with one row of the old edition or with one entry less, and writes of other
+/// records or of fewer masks. Each is made when it is asked for: a long buffer has many.
 fn simpler_calls(call: &Call) -> impl Iterator<Item = Call> {
     let whole: Box<dyn Iterator<Item = Call>> = match call {
-        Call::Start(start) => Box::new(simpler_tables(start)),
+        Call::Start(start) => Box::new(old_rows(start).chain(simpler_tables(start))),
         Call::WriteRecords(write) => Box::new(fewer_records(write).chain(fewer_masks(write))),
         _ => Box::new(iter::empty()),
     };
     let parts = 0..call.clone().parts().len();
     let parts = parts.flat_map(|index| simpler_part(call, index));
     whole.chain(parts)
+}
+
+/// Starts with one row made one of the old edition, which permits no bit that it does not know.
+fn old_rows(start: &Start) -> impl Iterator<Item = Call> {
+    let rows = 0..start.rows.lent().len();
+    rows.map(|index| {
+        let mut changed = start.clone();
+        let row = &mut changed.rows.lent_mut()[index];
+        row.edition = OLD_EDITION;
+        row.permitted &= known_control(OLD_EDITION);
+        changed.into()
+    })
 }
 
 /// Starts from an MCFG table with one entry less, with zeros in a run or with one byte smaller, mended.
@@ -198,16 +233,21 @@ fn shorter(numbers: Rc<[u64]>) -> impl Iterator<Item = Vec<u64>> {
     lengths.map(move |length| numbers[..length].to_vec())
 }
 
-/// Lists with zeros in a run of numbers: all of them, a half, and so on down to 2.
-fn zero_runs(numbers: Rc<[u64]>) -> impl Iterator<Item = Vec<u64>> {
-    let length = numbers.len();
+/// Runs of so many things: all of them, a half, and so on down to the shortest.
+fn runs(length: usize, shortest: usize) -> impl Iterator<Item = Range<usize>> {
     let halves = (0..usize::BITS).map(move |bits| length >> bits);
-    let runs = halves.take_while(|run| *run > 1);
-    let starts = runs.flat_map(move |run| (0..length).step_by(run).map(move |start| (start, run)));
-    starts.map(move |(start, run)| {
+    let sizes = halves.take_while(move |size| *size >= shortest);
+    sizes.flat_map(move |size| {
+        let starts = (0..length).step_by(size);
+        starts.map(move |start| start..length.min(start + size))
+    })
+}
+
+/// Lists with zeros in a run of 2 numbers or more.
+fn zero_runs(numbers: Rc<[u64]>) -> impl Iterator<Item = Vec<u64>> {
+    runs(numbers.len(), 2).map(move |run| {
         let mut changed = numbers.to_vec();
-        let zeroed = changed[start..].iter_mut().take(run);
-        zeroed.for_each(|number| *number = 0);
+        changed[run].fill(0);
         changed
     })
 }
@@ -225,11 +265,14 @@ fn smaller_numbers(numbers: Rc<[u64]>) -> impl Iterator<Item = Vec<u64>> {
     })
 }
 
-/// Record blocks with one field less, and with zeros for the masks of one register.
+/// Record blocks with a run of fields less, and with zeros for the masks of one register.
 fn simpler_blocks(block: Rc<[u64]>) -> impl Iterator<Item = Vec<u64>> {
     let bytes: Vec<u8> = block.iter().map(|number| *number as u8).collect();
-    let fields = blocks::fields(&bytes).into_iter();
-    let fewer = fields.map(move |field| [&block[..field.start], &block[field.end..]].concat());
+    let fields = blocks::fields(&bytes);
+    let fewer = runs(fields.len(), 1).map(move |run| {
+        let (first, last) = (&fields[run.start], &fields[run.end - 1]);
+        [&block[..first.start], &block[last.end..]].concat()
+    });
     let plainer = (0..REGISTERS).map(move |register| {
         let mut changed = bytes.clone();
         blocks::each_express(&mut changed, |_, masks| without_masks(masks, register));

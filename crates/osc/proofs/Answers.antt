@@ -4,13 +4,17 @@ use mathlib.Core.Path.{_≡_, refl, sym, ap, _∙_}
 use mathlib.Core.Bool.{Bool, true, false, cond, not}
 use mathlib.Core.List.{List, [], _++_}
 use native.Mathlib.Omega.{arith}
-use lib.Bits.{bitAnd, bitOr}
+use borrow.Author.Tests.{eq-eqb}
+use lib.Bits.{bitAnd, bitOr, and-self}
 use lib.ListN.{length, take, drop, replicate, drop-of-length-le, length-append, length-drop, length-replicate}
 use lib.Seq.{take-all, take-at, take-add, length-take-le}
-use Rattle.rules.specs.Numbers.{le32}
+use Rattle.rules.specs.Numbers.{le32, within}
 use Rattle.rules.specs.Tables.{holding}
-use Rattle.rules.specs.Osc.{knownSupport, granted, grantStatus, recognised, errorStatus, query, support, control, oscAnswer, joined, oscAfter}
+use Rattle.rules.specs.Editions.{knownSupport}
+use Rattle.rules.specs.Osc.{granted, grantStatus, recognised, errorStatus, query, support, control, oscAnswer, joined, oscAfter}
 use Rattle.rules.specs.declared.Bridge.{Bridge}
+use Rattle.rules.proofs.Tests.{fails}
+use Rattle.rules.proofs.Sets.{same-sub, within-sub}
 use Rattle.osc.specs.Granted.{grantedAnswer}
 
 -- three DWORDs written one after the other fill twelve bytes
@@ -79,6 +83,13 @@ more-right a x n at a₁ f h l e i =
         take-add at 4 (errorBytes x n)
         ∙ ap (λ (y : List ℕ). take at (errorBytes x n) ++ y) (ap (take 4) (zeros-left x n at f) ∙ zero-dword (n - 4 - (at - 4)) (omega arith))
 
+-- the status of a set that was requested: as large as the request, or not
+pub all-granted : (r g : ℕ) → g ≡ r → 0 ≡ grantStatus r g
+all-granted r g e = rw (e, and-self r, eq-eqb r r refl)
+
+pub some-masked : (r g : ℕ) → within g r ≡ true → (g ≡ r → ⊥) → 0x10 ≡ grantStatus r g
+some-masked r g w n = rw (fails (within r g) (λ e. n (same-sub g r (within-sub g r w) (within-sub r g e))))
+
 -- what was read, found and written is the answer
 pub granted-written : (b : Bridge) (caps : List ℕ) (s r g st : ℕ) → s ≡ support caps → r ≡ control caps → g ≡ granted b s r → st ≡ grantStatus r g
     → le32 st ++ le32 s ++ le32 g ≡ grantedAnswer b caps
@@ -89,9 +100,9 @@ module _ (b : Bridge) (caps : List ℕ) (q : Bool) (e : q ≡ query caps) where
   pub query-adds : q ≡ true → holding b ≡ cond (query caps) (holding b) (joined b caps)
   query-adds t = rw (sym e, t)
 
-  pub taking-adds : (g s : ℕ) → q ≡ false → g ≡ granted b (support caps) (control caps) → s ≡ support caps
-      → record { held = bitOr (b .held) g; supported = bitOr (b .supported) (bitAnd s knownSupport) } ≡ cond (query caps) (holding b) (joined b caps)
-  taking-adds g s t p w = rw (sym e, t, p, w)
+  pub taking-adds : (g s k : ℕ) → q ≡ false → g ≡ granted b (support caps) (control caps) → s ≡ support caps → k ≡ knownSupport (b .edition)
+      → record { held = bitOr (b .held) g; supported = bitOr (b .supported) (bitAnd s k) } ≡ cond (query caps) (holding b) (joined b caps)
+  taking-adds g s k t p w z = rw (sym e, t, p, w, z)
 
 module _ (b : Bridge) (revision count : ℕ) (uuid caps : List ℕ) where
   -- an error: its status, zeros, and nothing added

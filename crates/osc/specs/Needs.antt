@@ -1,9 +1,14 @@
--- Document 01, "Granting control": what each control bit needs.
+-- Document 02, d: the control bits of a list whose needs are met.
 use Prim.Native.Nat.{ℕ}
-use lib.ListN.{length, getD}
+use mathlib.Core.List.{List}
+use lib.ListN.{length}
 use Rattle.rules.specs.Numbers.{within, number}
-use Rattle.rules.specs.Osc.{controlNeeds}
+use Rattle.rules.specs.Granting.{Needs, needsOf}
 
--- the known control bits whose needs the available ones meet
-unfoldable pub needsMet : ℕ → ℕ
-needsMet available = number (length controlNeeds) (λ i. within (getD controlNeeds i 0) available)
+-- their control bits are among the available ones
+unfoldable pub needsMet : List Needs → (available : ℕ) → ℕ
+needsMet bits available = number (length bits) (λ i. within (needsOf bits i .controls) available)
+
+-- their support bits are among the declared ones
+unfoldable pub supportsMet : List Needs → (declared : ℕ) → ℕ
+supportsMet bits declared = number (length bits) (λ i. within (needsOf bits i .supports) declared)

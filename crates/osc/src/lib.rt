@@ -1,17 +1,22 @@
 // _OSC: framing, the granting rule by masks, the answer buffer, what a taking call adds.
 use rules::Bridge;
 use rules::Holding;
-use rules::constants::KNOWN_CONTROL;
-use rules::constants::KNOWN_SUPPORT;
+use rules::constants::EDITION_3_3;
+use rules::constants::KNOWN_CONTROL_3_0;
+use rules::constants::KNOWN_CONTROL_3_3;
+use rules::constants::KNOWN_SUPPORT_3_0;
+use rules::constants::KNOWN_SUPPORT_3_3;
 ghost use mathlib.Core.Path.{_≡_};
-ghost use mathlib.Core.Bool.{false, cond};
+ghost use mathlib.Core.Bool.{true, false, cond};
 ghost use mathlib.Core.List.{_++_};
-ghost use Prim.Native.Nat.{_-_, _%_, _≤_};
+ghost use Prim.Native.Nat.{ℕ, _-_, _%_, _≤_};
 ghost use lib.ListN.{length, replicate};
 ghost use Rattle.osc.specs.Granted.{grantedAnswer};
-ghost use Rattle.osc.specs.Needs.{needsMet};
-ghost use Rattle.rules.specs.Numbers.{le32, sameBytes};
+ghost use Rattle.osc.specs.Needs.{needsMet, supportsMet};
+ghost use Rattle.rules.specs.Numbers.{le32, sameBytes, within};
 ghost use Rattle.rules.specs.Tables.{holding};
+ghost use Rattle.rules.specs.Granting.{grantedBy};
+ghost use Rattle.rules.specs.Editions.{controls30, controls33, knownSupport};
 ghost use Rattle.rules.specs.Osc.{
   granted as grantedOf,
   grantStatus,
@@ -29,11 +34,6 @@ ghost use Rattle.rules.specs.Osc.{
 
 // The UUID as it stands in the buffer.
 const UUID: [u8; 16] = *b"\x5b\x4d\xdb\x33\xf7\x1f\x1c\x40\x96\x57\x74\x41\xc0\x3d\xd7\x66";
-
-// The control bits that need no other, and the one that the others need.
-const FREE_CONTROL: u32 = 0x12;
-
-const EXPRESS_CAPABILITY: u32 = 0x10;
 
 // The flag in the status DWORD.
 const QUERY: u32 = 0x01;
@@ -86,29 +86,83 @@ fn is_query(caps: &[u8]) -> bool
     words::read32(caps, 0) & QUERY != 0
 }
 
-// The known control bits whose needs the available ones meet.
-fn needs_met(available: u32) -> u32
-    ensures { λ r. ⌜ r ≡ needsMet available ⌝ }
+// These bits, where the set has all that they need.
+fn met(set: u32, needs: u32, bits: u32) -> u32
+    ensures { λ r. ⌜ r ≡ cond (within needs set) bits 0 ⌝ }
 {
-    if available & EXPRESS_CAPABILITY == EXPRESS_CAPABILITY {
-        return KNOWN_CONTROL;
+    if set & needs == needs {
+        return bits;
     }
-    FREE_CONTROL
+    0
 }
 
-// The control bits granted of those requested; the support DWORD does not count.
+// Bits 1 and 4 need no control bit; 0, 2 and 3 need bit 4.
+fn needs_met_3_0(available: u32) -> u32
+    ensures { λ r. ⌜ r ≡ needsMet controls30 available ⌝ }
+{
+    0x12 | met(available, 0x10, 0x0d)
+}
+
+// Bits 4, 6 and 9 need no control bit; 0, 1, 2, 5 and 8 need bit 4; 3 needs 4 and 7; 7 needs 3 and 4.
+fn needs_met_3_3(available: u32) -> u32
+    ensures { λ r. ⌜ r ≡ needsMet controls33 available ⌝ }
+{
+    if available & 0x10 == 0x10 {
+        return 0x377 | met(available, 0x80, 0x08) | met(available, 0x08, 0x80);
+    }
+    0x250
+}
+
+// Bit 7 needs support bit 7.
+fn supports_met_3_3(declared: u32) -> u32
+    ensures { λ r. ⌜ r ≡ supportsMet controls33 declared ⌝ }
+{
+    0x37f | met(declared, 0x80, 0x80)
+}
+
+// The granted bits by the masks of each edition. What the bits that a bit needs need in turn is needed by it too, or is itself, so one look at the available bits is enough.
+fn granted_3_0(permitted: u32, held: u32, requested: u32) -> u32
+    ensures { λ r. ⌜ ((declared : ℕ) → r ≡ grantedBy controls30 permitted held declared requested) ⌝ }
+{
+    let available = requested & KNOWN_CONTROL_3_0 & (held | permitted);
+    available & (held | needs_met_3_0(available))
+}
+
+fn granted_3_3(permitted: u32, held: u32, declared: u32, requested: u32) -> u32
+    ensures { λ r. ⌜ r ≡ grantedBy controls33 permitted held declared requested ⌝ }
+{
+    let grantable = permitted & supports_met_3_3(declared);
+    let available = requested & KNOWN_CONTROL_3_3 & (held | grantable);
+    available & (held | needs_met_3_3(available))
+}
+
+// The control bits granted of those requested, by the bridge's edition.
 pub fn granted_bits(b: Bridge, support: u32, requested: u32) -> u32
     ensures { λ r. ⌜ r ≡ grantedOf b support requested ⌝ }
 {
-    let met = needs_met(requested & (b.held | b.permitted));
-    requested & KNOWN_CONTROL & (b.held | (b.permitted & met))
+    if b.edition == EDITION_3_3 {
+        let declared = b.supported | (support & KNOWN_SUPPORT_3_3);
+        return granted_3_3(b.permitted, b.held, declared, requested);
+    }
+    granted_3_0(b.permitted, b.held, requested)
 }
 
-// Whether any requested bit is not granted, as a status.
+// The support bits that an edition knows.
+fn known_support(edition: u8) -> u32
+    ensures { λ r. ⌜ r ≡ knownSupport edition ⌝ }
+{
+    if edition == EDITION_3_3 {
+        return KNOWN_SUPPORT_3_3;
+    }
+    KNOWN_SUPPORT_3_0
+}
+
+// Whether any requested bit is not granted, as a status. What is granted was requested, so that to compare the two is enough.
 fn grant_status(requested: u32, granted: u32) -> u32
+    requires { ⌜ within granted requested ≡ true ⌝ }
     ensures { λ r. ⌜ r ≡ grantStatus requested granted ⌝ }
 {
-    if requested & granted == requested {
+    if granted == requested {
         return 0;
     }
     0x10
@@ -156,6 +210,7 @@ fn grant(b: Bridge, caps: &[u8], answer: &mut [u8]) -> Holding
     requires { ⌜ (length (now caps) ≡ 12) × (length (now answer) ≡ 12) ⌝ }
     ensures { λ r. ⌜ (now (answer .exit) ≡ grantedAnswer b (now (caps .entry))) × (r ≡ cond (query (now (caps .entry))) (holding b) (joined b (now (caps .entry)))) ⌝ }
 {
+    let support = words::read32(caps, 4);
     if is_query(caps) {
         answer_granted(b, caps, answer);
         return Holding {
@@ -166,7 +221,7 @@ fn grant(b: Bridge, caps: &[u8], answer: &mut [u8]) -> Holding
     let granted = answer_granted(b, caps, answer);
     Holding {
         held: b.held | granted,
-        supported: b.supported | (words::read32(caps, 4) & KNOWN_SUPPORT),
+        supported: b.supported | (support & known_support(b.edition)),
     }
 }
 

@@ -3,7 +3,8 @@ use Rattle.rules.specs.AllClaims.{AllClaims}
 use Rattle.rules.proofs.BenchSheet.{bench-sheet}
 use Rattle.rules.proofs.BenchRuns.{example-runs}
 use Rattle.rules.proofs.Lists.{every-and-pair}
-use Rattle.rules.proofs.Granting.{granted-bits}
+use Rattle.rules.proofs.Largest.{granted-largest}
+use Rattle.rules.proofs.Granting.{old-rows}
 use Rattle.rules.proofs.Claims.{refusals-exactly, refused-changes-nothing, tables-sound, history-holds, queries-change-nothing, held-until-reset, there-and-back, back-and-there, one-address, separation, negotiation}
 use Rattle.rules.proofs.Buffers.{buffers-keep-length}
 use Rattle.rules.proofs.Records.{record-part}
@@ -14,7 +15,8 @@ use Rattle.rules.proofs.Writing.{written-sound, written-read-back, read
 pub all-claims : AllClaims
 all-claims = record {
   every-and-pair = every-and-pair;
-  granted-bits = granted-bits;
+  granted-largest = granted-largest;
+  old-rows = old-rows;
   refusals-exactly = refusals-exactly;
   refused-changes-nothing = refused-changes-nothing;
   buffers-keep-length = buffers-keep-length;

@@ -4,6 +4,8 @@ pub mod Tests
 pub mod Refusals
 pub mod Bits
 pub mod Sets
+pub mod Largest
+pub mod OnePass
 pub mod Granting
 pub mod Indexed
 pub mod Local

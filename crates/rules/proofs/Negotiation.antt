@@ -1,6 +1,7 @@
 -- The second answer is never masked, and the taking call grants exactly those bits, which are then held.
 -- Assumes nothing.
 use mathlib.Core.Path.{_≡_, refl, sym, ap, ap₂, _∙_, subst}
+use mathlib.Core.Logic.{_⊎_}
 use mathlib.Core.Bool.{true, false, not, _&&_}
 use mathlib.Core.List.{List, _∷_, _++_}
 use Prim.Native.Nat.{ℕ, _^_, _<_}
@@ -11,10 +12,11 @@ use lib.ListN.{length}
 use Rattle.rules.specs.Numbers.{le32}
 use Rattle.rules.specs.Tables.{holding, withHolding, owns, bridgeAt, fixed}
 use Rattle.rules.specs.Start.{Sound}
+use Rattle.rules.specs.Editions.{edition30}
 use Rattle.rules.specs.Osc.{granted, grantStatus, uuidBytes, framingBad, recognised, status, query, support, control, oscAnswer}
 use Rattle.rules.specs.Calls.{osc, Call, numberAt, step, tableAfter}
 use Rattle.rules.specs.History.{reaches, historyStep}
-use Rattle.rules.specs.Claims.{Buffers, rightCall, answerOf, Undisturbed, returned, Negotiated}
+use Rattle.rules.specs.Claims.{Buffers, rightCall, answerOf, Undisturbed, SameSupport, returned, Negotiated}
 use Rattle.rules.specs.declared.Bridge.{Bridge}
 use Rattle.rules.specs.declared.BridgeNumber.{BridgeNumber}
 use Rattle.rules.specs.declared.SessionNumber.{SessionNumber}
@@ -84,7 +86,7 @@ module _ (t : Table) (s : SessionNumber) (n : BridgeNumber) (h : n .0 < t .count
 
 module _ (t : Table) (s : SessionNumber) (n : BridgeNumber) (h : n .0 < t .count) (o : owns s (bridgeAt t (n .0)) ≡ true) (w r : ℕ)
     (u : Table) (f : fixed u ≡ fixed t) (k : holding (bridgeAt u (n .0)) ≡ holding (bridgeAt t (n .0)))
-    (c : Buffers) (e : control (c .caps) ≡ granted (bridgeAt t (n .0)) w r) where
+    (c : Buffers) (v : (bridgeAt t (n .0) .edition ≡ edition30) ⊎ (support (c .caps) ≡ w)) (e : control (c .caps) ≡ granted (bridgeAt t (n .0)) w r) where
   in-count : n .0 < u .count
   in-count = subst (λ (x : Table). n .0 < x .count) (sym f) h
 
@@ -94,9 +96,9 @@ module _ (t : Table) (s : SessionNumber) (n : BridgeNumber) (h : n .0 < t .count
   same-bridge : bridgeAt u (n .0) ≡ bridgeAt t (n .0)
   same-bridge = ap₂ {B = Holding} (λ (x : Bridge) y. withHolding x y) (same-bridges u t f (n .0)) k
 
-  -- the support DWORD does not count, so it may be another one
+  -- what was granted is granted whole
   whole : granted (bridgeAt u (n .0)) (support (c .caps)) (control (c .caps)) ≡ control (c .caps)
-  whole = rw (same-bridge, e) (granted-support (bridgeAt t (n .0)) (support (c .caps)) w (granted (bridgeAt t (n .0)) w r) ∙ granted-again (bridgeAt t (n .0)) w r)
+  whole = rw (same-bridge, e) (granted-support (bridgeAt t (n .0)) (support (c .caps)) w (granted (bridgeAt t (n .0)) w r) v ∙ granted-again (bridgeAt t (n .0)) w r)
 
   whole-number : step u (rightCall s n c) .outcome .number ≡ 0
   whole-number = call-number u s n in-count owner c
@@ -116,10 +118,11 @@ pub negotiated : (t : Table) → Sound t → (l m : List Call) (s : SessionNumbe
     → n .0 < t .count → owns s (bridgeAt t (n .0)) ≡ true
     → query (first .caps) ≡ true → query (second .caps) ≡ true → query (taking .caps) ≡ false
     → Undisturbed t (n .0) l → Undisturbed t (n .0) m
+    → SameSupport (bridgeAt t (n .0)) first second → SameSupport (bridgeAt t (n .0)) first taking
     → control (second .caps) ≡ returned t s n first second taking l m
     → control (taking .caps) ≡ returned t s n first second taking l m
     → Negotiated t s n first second taking l m
-negotiated t st l m s n first second taking h o q₁ q₂ q₃ dl dm e₂ e₃ =
+negotiated t st l m s n first second taking h o q₁ q₂ q₃ dl dm v₂ v₃ e₂ e₃ =
     let i = n .0 in
     let w = support (first .caps) in
     let d = control (first .caps) in
@@ -136,11 +139,11 @@ negotiated t st l m s n first second taking h o q₁ q₂ q₃ dl dm e₂ e₃ =
     let kv : holding (bridgeAt v i) ≡ holding (bridgeAt t i) =
     history-from t i (b ∷ m) u fu (rw (same-length u t fu) long) ∙ undisturbed t i (holding (bridgeAt u i)) (b ∷ m) (query-undisturbed t s n h o second q₂ i, dm) ∙ ku in
     record {
-      second-number = whole-number t s n h o w d u fu ku second (e₂ ∙ r);
-      second-status = whole-status t s n h o w d u fu ku second (e₂ ∙ r);
-      second-control = whole-control t s n h o w d u fu ku second (e₂ ∙ r) ∙ e₂;
-      taking-number = whole-number t s n h o w d v fv kv taking (e₃ ∙ r);
-      taking-status = whole-status t s n h o w d v fv kv taking (e₃ ∙ r);
-      taking-control = whole-control t s n h o w d v fv kv taking (e₃ ∙ r) ∙ e₃;
-      held-after = whole-held t s n h o w d v fv kv taking (e₃ ∙ r) q₃ (rw (same-length v t fv) long) ∙ ap (bitOr (bridgeAt t i .held)) e₃;
+      second-number = whole-number t s n h o w d u fu ku second v₂ (e₂ ∙ r);
+      second-status = whole-status t s n h o w d u fu ku second v₂ (e₂ ∙ r);
+      second-control = whole-control t s n h o w d u fu ku second v₂ (e₂ ∙ r) ∙ e₂;
+      taking-number = whole-number t s n h o w d v fv kv taking v₃ (e₃ ∙ r);
+      taking-status = whole-status t s n h o w d v fv kv taking v₃ (e₃ ∙ r);
+      taking-control = whole-control t s n h o w d v fv kv taking v₃ (e₃ ∙ r) ∙ e₃;
+      held-after = whole-held t s n h o w d v fv kv taking v₃ (e₃ ∙ r) q₃ (rw (same-length v t fv) long) ∙ ap (bitOr (bridgeAt t i .held)) e₃;
     }

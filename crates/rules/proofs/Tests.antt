@@ -29,6 +29,10 @@ pub or-right : (a b : Bool) → b ≡ true → (a || b) ≡ true
 or-right true b e = refl
 or-right false b e = e
 
+pub or-mono : (a b c : Bool) → (b ≡ true → c ≡ true) → (a || b) ≡ true → (a || c) ≡ true
+or-mono true b c f e = refl
+or-mono false b c f e = f e
+
 pub and-l : (a b : Bool) → (a && b) ≡ true → a ≡ true
 and-l a b e = and-true a b e .0
 

@@ -1,25 +1,29 @@
--- Example runs: starts, a run of two sessions on one table, record searches, pairs of masks, written records, images of a ROM, register values, grants and places.
-use Prim.Native.Nat.{ℕ, zero, suc, _-_, _/_, _%_}
+-- Example runs: starts, a run of two sessions on one table, record searches, pairs of masks, written records, images of a ROM, register values, grants, grants of both editions, a table that mixes them, and places.
+use Prim.Native.Nat.{ℕ, zero, suc, _-_, _/_, _%_, _^_}
 use mathlib.Core.Bool.{true, false, cond}
-use mathlib.Core.List.{List, [], _∷_, _++_}
+use mathlib.Core.List.{List, [], _∷_, _++_, map}
 use mathlib.Core.Option.{none, some}
 use lib.Dec.{eqb, leb}
 use lib.ListN.{take, drop, set, replicate}
 use Rattle.rules.specs.Limits.{maxRom}
 use Rattle.rules.specs.Place.{placeBad, busOutside}
+use Rattle.rules.specs.Numbers.{dword, le32}
+use Rattle.rules.specs.Tables.{holding}
+use Rattle.rules.specs.Editions.{edition30, edition33}
 use Rattle.rules.specs.Start.{StartInput, express, conventional, startNumber, bridgeOf, startTable}
 use Rattle.rules.specs.Osc.{uuidBytes}
 use Rattle.rules.specs.Records.{findRecord}
 use Rattle.rules.specs.Rom.{findImage}
 use Rattle.rules.specs.Writer.{presentIn, writeRecords, bufferAfter, readSettings, placeAmong, onlyRising}
-use Rattle.rules.specs.Calls.{osc, reset, report, address, registerValues, Call, on, locate, nothing, reported, addressed, located, values, Outcome, outcome, outcomes}
-use Rattle.rules.specs.Claims.{acpiBit}
-use Rattle.rules.specs.BenchSheet.{Line, _gives_, AllHold, bridgeWith, outcomeOn, oscOn, samePairs, registersOn, newRegisters}
+use Rattle.rules.specs.Calls.{osc, reset, report, address, registerValues, Call, on, locate, nothing, reported, addressed, located, values, Outcome, outcome, bridgeBy, outcomes}
+use Rattle.rules.specs.Claims.{acpiBit, answerOf}
+use Rattle.rules.specs.BenchSheet.{Line, _gives_, AllHold, bridgeIn, bridgeWith, numberOn, outcomeOn, oscOn, samePairs, registersOn, newRegisters}
 use Rattle.rules.specs.declared.Bridge.{Bridge}
 use Rattle.rules.specs.declared.BridgeNumber.{BridgeNumber}
 use Rattle.rules.specs.declared.BridgeRow.{BridgeRow}
 use Rattle.rules.specs.declared.SessionNumber.{SessionNumber}
 use Rattle.rules.specs.declared.FoundAt.{FoundAt}
+use Rattle.rules.specs.declared.Holding.{Holding}
 use Rattle.rules.specs.declared.Masks.{Masks}
 use Rattle.rules.specs.declared.Settings.{Settings}
 
@@ -42,8 +46,12 @@ sharedByte =
     ∷ 0 ∷ 0 ∷ 0 ∷ 0 ∷ 0 ∷ 0 ∷ 0 ∷ 0x0F ∷ 0 ∷ 0 ∷ 0 ∷ 0 ∷ 0 ∷ 0 ∷ 0xF0 ∷ 0xE0
     ∷ 0 ∷ 0 ∷ 0 ∷ 0 ∷ 1 ∷ 0 ∷ 0 ∷ 0 ∷ 0 ∷ 0 ∷ 0 ∷ 0 ∷ []
 
+abbrev pub rowIn : (edition kind owner first last permitted : ℕ) → BridgeRow
+rowIn edition kind owner first last permitted = record { permitted = permitted; segment = 0; owner = record { 0 = owner }; «first_bus» = first; «last_bus» = last; kind = kind; edition = edition }
+
+-- a row of the old edition
 abbrev pub row : (kind owner first last permitted : ℕ) → BridgeRow
-row kind owner first last permitted = record { permitted = permitted; segment = 0; owner = record { 0 = owner }; «first_bus» = first; «last_bus» = last; kind = kind }
+row = rowIn edition30
 
 abbrev pub starting : List ℕ → List BridgeRow → StartInput
 starting m rows = record { mcfg = m; rows = rows }
@@ -68,6 +76,11 @@ entries65 = set (set (set (take 44 oneEntry) 4 0x3C) 5 4) 9 0xA3 ++ segments 65
 abbrev pub oneBusRows : ℕ → List BridgeRow
 oneBusRows zero = []
 oneBusRows (suc n) = row express 3 n n 0 ∷ oneBusRows n
+
+-- start's numbers for a row that permits one bit
+abbrev pub permitting : (edition kind : ℕ) → List ℕ
+permitting edition kind =
+    map (λ i. startNumber (starting oneEntry (rowIn edition kind 3 0 15 (2 ^ i) ∷ []))) (0 ∷ 1 ∷ 2 ∷ 3 ∷ 4 ∷ 5 ∷ 6 ∷ 7 ∷ 8 ∷ 9 ∷ 10 ∷ 31 ∷ [])
 
 abbrev pub starts : List Line
 starts =
@@ -101,6 +114,24 @@ starts =
     ∷ (startNumber (starting oneEntry (row 2 3 0 15 0x02 ∷ [])) gives 7)
     ∷ (startNumber (starting oneEntry (row 255 3 0 15 0 ∷ [])) gives 7)
     ∷ (startNumber (starting [] (row 2 3 0 15 0x02 ∷ [])) gives 6)
+    -- document 02, d: edition 3.3 with every bit that it knows, with those of the old one, and with one that it does not know
+    ∷ (startNumber (starting oneEntry (rowIn edition33 express 3 0 15 0x3FF ∷ [])) gives 0)
+    ∷ (startNumber (starting oneEntry (rowIn edition33 express 3 0 15 0x1F ∷ [])) gives 0)
+    ∷ (startNumber (starting oneEntry (rowIn edition33 express 3 0 15 0x400 ∷ [])) gives 7)
+    -- editions 2, of either kind, and 255; edition 2 with an MCFG table that is not sound
+    ∷ (startNumber (starting oneEntry (rowIn 2 express 3 0 15 0x1F ∷ [])) gives 7)
+    ∷ (startNumber (starting oneEntry (rowIn 2 conventional 3 0 15 0x02 ∷ [])) gives 7)
+    ∷ (startNumber (starting oneEntry (rowIn 255 express 3 0 15 0 ∷ [])) gives 7)
+    ∷ (startNumber (starting [] (rowIn 2 express 3 0 15 0x1F ∷ [])) gives 6)
+    -- bits 0 to 10, and 31, one at a time, by edition and kind; a conventional row of edition 3.3 with two
+    ∷ (permitting edition30 express gives 0 ∷ 0 ∷ 0 ∷ 0 ∷ 0 ∷ 7 ∷ 7 ∷ 7 ∷ 7 ∷ 7 ∷ 7 ∷ 7 ∷ [])
+    ∷ (permitting edition33 express gives 0 ∷ 0 ∷ 0 ∷ 0 ∷ 0 ∷ 0 ∷ 0 ∷ 0 ∷ 0 ∷ 0 ∷ 7 ∷ 7 ∷ [])
+    ∷ (permitting edition30 conventional gives 7 ∷ 0 ∷ 7 ∷ 7 ∷ 7 ∷ 7 ∷ 7 ∷ 7 ∷ 7 ∷ 7 ∷ 7 ∷ 7 ∷ [])
+    ∷ (permitting edition33 conventional gives 7 ∷ 0 ∷ 7 ∷ 7 ∷ 7 ∷ 7 ∷ 7 ∷ 7 ∷ 7 ∷ 7 ∷ 7 ∷ 7 ∷ [])
+    ∷ (startNumber (starting oneEntry (rowIn edition33 conventional 3 0 15 0x12 ∷ [])) gives 7)
+    -- a row of the old edition permits no bit of the other's, in a list with one that does
+    ∷ (startNumber (starting oneEntry (rowIn edition33 express 3 0 15 0x3FF ∷ rowIn edition30 express 5 16 31 0x1F ∷ [])) gives 0)
+    ∷ (startNumber (starting oneEntry (rowIn edition33 express 3 0 15 0x3FF ∷ rowIn edition30 express 5 16 31 0x20 ∷ [])) gives 7)
     -- document 02, e: owner 63, and 64; 64 rows, and 65
     ∷ (startNumber (starting oneEntry (row express 63 0 15 0x1F ∷ [])) gives 0)
     ∷ (startNumber (starting oneEntry (row express 64 0 15 0x1F ∷ [])) gives 7)
@@ -620,6 +651,144 @@ grants =
     ∷ (oscOn 0x01 0x10 (0 ∷ 0 ∷ 0 ∷ 0 ∷ 0 ∷ 0 ∷ 0 ∷ 0 ∷ 0x11 ∷ 0 ∷ 0 ∷ 0 ∷ []) gives record { answer = 0 ∷ 0 ∷ 0 ∷ 0 ∷ 0 ∷ 0 ∷ 0 ∷ 0 ∷ 0x11 ∷ 0 ∷ 0 ∷ 0 ∷ []; held = 0x11 })
     ∷ []
 
+-- ---- document 02, d: what a bridge of either edition grants
+
+-- the status and the control DWORD of the answer, and what the bridge holds after it
+pub record Reply : Type 0 where
+  pub status : ℕ
+  pub control : ℕ
+  pub holds : Holding
+
+abbrev pub reply : (status control held supported : ℕ) → Reply
+reply status control held supported = record { status = status; control = control; holds = record { held = held; supported = supported } }
+
+-- a call with this status, support and control DWORD on the bridge
+abbrev pub sent : Bridge → (status support control : ℕ) → Reply
+sent b status support control =
+    let o = osc 1 3 uuidBytes (le32 status ++ le32 support ++ le32 control) lentAnswer in
+    let answer = answerOf (outcomeOn b o) in
+    record { status = dword answer 0; control = dword answer 8; holds = holding (bridgeBy (numberOn b o) b o) }
+
+-- a taking call on a bridge of edition 3.3 that permits its ten bits and holds nothing; and of the old edition, with its five
+abbrev pub take33 : (support control : ℕ) → Reply
+take33 = sent (bridgeIn edition33 0x3FF 0 0) 0
+
+abbrev pub take30 : (support control : ℕ) → Reply
+take30 = sent (bridgeIn edition30 0x1F 0 0) 0
+
+abbrev pub editions : List Line
+editions =
+    -- bits 3 and 7 need each other, and bit 4; 7 needs support bit 7 too
+    (take33 0x80 0x98 gives reply 0 0x98 0x98 0x80)
+    ∷ (take33 0x7F 0x98 gives reply 0x10 0x10 0x10 0x7F)
+    ∷ (take33 0x80 0x18 gives reply 0x10 0x10 0x10 0x80)
+    ∷ (take33 0x80 0x90 gives reply 0x10 0x10 0x10 0x80)
+    ∷ (take33 0x80 0x88 gives reply 0x10 0 0 0x80)
+    -- with what 3 and 7 need but bit 4, the other of them held
+    ∷ (sent (bridgeIn edition33 0x3FF 0x80 0) 0 0 0x88 gives reply 0x10 0x80 0x80 0)
+    ∷ (sent (bridgeIn edition33 0x3FF 0x08 0) 0 0x80 0x88 gives reply 0x10 0x08 0x08 0x80)
+    -- all bits; without support bit 7; without bit 4; where 5 to 9 are not permitted, and where only 4 is; a bit that is not known
+    ∷ (take33 0x1FF 0x3FF gives reply 0 0x3FF 0x3FF 0x1FF)
+    ∷ (take33 0x1F 0x3FF gives reply 0x10 0x377 0x377 0x1F)
+    ∷ (take33 0x1FF 0x3EF gives reply 0x10 0x240 0x240 0x1FF)
+    ∷ (sent (bridgeIn edition33 0x1F 0 0) 0 0x1FF 0x1F gives reply 0x10 0x17 0x17 0x1FF)
+    ∷ (sent (bridgeIn edition33 0x1F 0 0) 0 0x1FF 0x3FF gives reply 0x10 0x17 0x17 0x1FF)
+    ∷ (sent (bridgeIn edition33 0x10 0 0) 0 0x1FF 0x3FF gives reply 0x10 0x10 0x10 0x1FF)
+    ∷ (take33 0 0x400 gives reply 0x10 0 0 0)
+    -- bits 0, 1, 2, 5 and 8 with bit 4, and without it; 4, 6 and 9 alone
+    ∷ (take33 0 0x11 gives reply 0 0x11 0x11 0)
+    ∷ (take33 0 0x01 gives reply 0x10 0 0 0)
+    ∷ (take33 0 0x12 gives reply 0 0x12 0x12 0)
+    ∷ (take33 0 0x02 gives reply 0x10 0 0 0)
+    ∷ (take33 0 0x14 gives reply 0 0x14 0x14 0)
+    ∷ (take33 0 0x04 gives reply 0x10 0 0 0)
+    ∷ (take33 0 0x30 gives reply 0 0x30 0x30 0)
+    ∷ (take33 0 0x20 gives reply 0x10 0 0 0)
+    ∷ (take33 0 0x110 gives reply 0 0x110 0x110 0)
+    ∷ (take33 0 0x100 gives reply 0x10 0 0 0)
+    ∷ (take33 0 0x10 gives reply 0 0x10 0x10 0)
+    ∷ (take33 0 0x40 gives reply 0 0x40 0x40 0)
+    ∷ (take33 0 0x200 gives reply 0 0x200 0x200 0)
+    -- a bit 4 that is requested and forbidden; a conventional row, which permits bit 1 alone
+    ∷ (sent (bridgeIn edition33 0x3EF 0 0) 0 0x1FF 0x3FF gives reply 0x10 0x240 0x240 0x1FF)
+    ∷ (sent (bridgeIn edition33 0x02 0 0) 0 0 0x12 gives reply 0x10 0 0 0)
+    -- held bits need nothing; a bit that is held and not asked for is not in the set; what is held and not permitted
+    ∷ (sent (bridgeIn edition33 0x3FF 0x98 0) 0 0 0x08 gives reply 0 0x08 0x98 0)
+    ∷ (sent (bridgeIn edition33 0x3FF 0x10 0) 0 0 0x01 gives reply 0x10 0 0x10 0)
+    ∷ (sent (bridgeIn edition33 0x3FF 0x08 0) 0 0x80 0x90 gives reply 0x10 0x10 0x18 0x80)
+    ∷ (sent (bridgeIn edition33 0x3FF 0x80 0) 0 0 0x18 gives reply 0x10 0x10 0x90 0)
+    ∷ (sent (bridgeIn edition33 0x3FF 0x80 0) 0 0 0x98 gives reply 0 0x98 0x98 0)
+    ∷ (sent (bridgeIn edition33 0 0x88 0) 0 0 0x3FF gives reply 0x10 0x88 0x88 0)
+    -- support from earlier calls counts, and so does a query's own, which is not kept
+    ∷ (sent (bridgeIn edition33 0x3FF 0 0x80) 0 0 0x98 gives reply 0 0x98 0x98 0x80)
+    ∷ (sent (bridgeIn edition33 0x3FF 0 0) 1 0x80 0x98 gives reply 0 0x98 0 0)
+    ∷ (sent (bridgeIn edition33 0x3FF 0 0x80) 1 0 0x98 gives reply 0 0x98 0 0x80)
+    ∷ (sent (bridgeIn edition33 0x3FF 0x11 0) 1 0 0x01 gives reply 0 0x01 0x11 0)
+    ∷ (sent (bridgeIn edition30 0x1F 0x11 0) 1 0 0x01 gives reply 0 0x01 0x11 0)
+    -- why the three negotiating calls carry the same support field: the second query leaves it out
+    ∷ (sent (bridgeIn edition33 0x3FF 0 0) 1 0 0x98 gives reply 0x10 0x10 0 0)
+    -- the known support bits of each edition
+    ∷ (take33 0x3FF 0 gives reply 0 0 0 0x1FF)
+    ∷ (take33 0xFFFFFFFF 0x98 gives reply 0 0x98 0x98 0x1FF)
+    ∷ (take30 0x3FF 0 gives reply 0 0 0 0x1F)
+    -- the old edition: AER without bit 7 and SHPC without bit 4, whatever the support; no bit above 4, permitted or not
+    ∷ (take30 0x1FF 0x3F gives reply 0x10 0x1F 0x1F 0x1F)
+    ∷ (take30 0 0x18 gives reply 0 0x18 0x18 0)
+    ∷ (take30 0 0x02 gives reply 0 0x02 0x02 0)
+    ∷ (sent (bridgeIn edition30 0x3FF 0 0) 0 0x1FF 0x3FF gives reply 0x10 0x1F 0x1F 0x1F)
+    ∷ []
+
+-- an Express and a conventional bridge of each edition, the class and the plant with one of each
+abbrev pub mixedLesson : StartInput
+mixedLesson = starting oneEntry (
+    rowIn edition30 express 3 0 15 0x1F ∷ rowIn edition33 express 5 128 159 0x3FF
+    ∷ rowIn edition33 conventional 3 16 31 0x02 ∷ rowIn edition30 conventional 5 32 47 0x02 ∷ [])
+
+-- a taking call: every support bit, control 0x3FF
+abbrev pub takeEvery : List ℕ
+takeEvery = 0 ∷ 0 ∷ 0 ∷ 0 ∷ 0xFF ∷ 0xFF ∷ 0xFF ∷ 0xFF ∷ 0xFF ∷ 3 ∷ 0 ∷ 0 ∷ []
+
+-- it is answered with this status and these bits
+abbrev pub got : (status low high : ℕ) → Outcome
+got status low high = outcome 0 nothing (uuidBytes ∷ takeEvery ∷ (status ∷ 0 ∷ 0 ∷ 0 ∷ 0xFF ∷ 0xFF ∷ 0xFF ∷ 0xFF ∷ low ∷ high ∷ 0 ∷ 0 ∷ []) ∷ [])
+
+abbrev pub holds : (held supported : ℕ) → Outcome
+holds held supported = outcome 0 (reported (record { held = held; supported = supported })) []
+
+-- each takes what it can get and reports; the plant's bridge of edition 3.3 is reset, and takes all again
+abbrev pub mixed : List Line
+mixed =
+    (outcomes (startTable mixedLesson) (
+    on class (bridge 0) (osc 1 3 uuidBytes takeEvery lentAnswer)
+    ∷ on plant (bridge 1) (osc 1 3 uuidBytes takeEvery lentAnswer)
+    ∷ on class (bridge 2) (osc 1 3 uuidBytes takeEvery lentAnswer)
+    ∷ on plant (bridge 3) (osc 1 3 uuidBytes takeEvery lentAnswer)
+    ∷ on class (bridge 0) report
+    ∷ on plant (bridge 1) report
+    ∷ on class (bridge 2) report
+    ∷ on plant (bridge 3) report
+    ∷ on class (bridge 1) (osc 1 3 uuidBytes takeEvery lentAnswer)
+    ∷ on plant (bridge 1) reset
+    ∷ on class (bridge 0) report
+    ∷ on plant (bridge 1) report
+    ∷ on plant (bridge 1) (osc 1 3 uuidBytes takeEvery lentAnswer)
+    ∷ []) gives
+    got 0x10 0x1F 0
+    ∷ got 0 0xFF 3
+    ∷ got 0x10 0 0
+    ∷ got 0x10 0x02 0
+    ∷ holds 0x1F 0x1F
+    ∷ holds 0x3FF 0x1FF
+    ∷ holds 0 0x1FF
+    ∷ holds 0x02 0x1F
+    ∷ outcome 2 nothing (uuidBytes ∷ takeEvery ∷ lentAnswer ∷ [])
+    ∷ outcome 0 nothing []
+    ∷ holds 0x1F 0x1F
+    ∷ holds 0 0
+    ∷ got 0 0xFF 3
+    ∷ [])
+    ∷ []
+
 -- ---- refusals 5 and 4 of a place
 
 abbrev pub withBuses : (first last : ℕ) → Bridge
@@ -644,4 +813,4 @@ places =
     ∷ []
 
 abbrev pub ExampleRuns : Type 0
-ExampleRuns = AllHold starts × AllHold run × AllHold searches × AllHold masks × AllHold writes × AllHold reads × AllHold images × AllHold romSizes × AllHold registers × AllHold grants × AllHold places
+ExampleRuns = AllHold starts × AllHold run × AllHold searches × AllHold masks × AllHold writes × AllHold reads × AllHold images × AllHold romSizes × AllHold registers × AllHold grants × AllHold editions × AllHold mixed × AllHold places

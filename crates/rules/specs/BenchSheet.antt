@@ -6,6 +6,7 @@ use mathlib.Core.List.{List, [], _∷_, _++_}
 use lib.ListN.{replicate}
 use Rattle.rules.specs.Numbers.{le32}
 use Rattle.rules.specs.Mcfg.{entrySound}
+use Rattle.rules.specs.Editions.{edition30}
 use Rattle.rules.specs.Records.{blockSound, andOr}
 use Rattle.rules.specs.Calls.{Operation, osc, address, registerValues, addressed, values, Outcome, outcome, numberAt, outcomeBy, bridgeBy}
 use Rattle.rules.specs.Claims.{answerOf}
@@ -26,8 +27,12 @@ pub record Answered : Type 0 where
   pub held : ℕ
 
 -- a bridge of session 1 with base 0xE0000000 and buses 1 to 2
+abbrev pub bridgeIn : (edition permitted held supported : ℕ) → Bridge
+bridgeIn e p h u = record { base = 0xE0000000; permitted = p; held = h; supported = u; segment = 0; owner = record { 0 = 1 }; «first_bus» = 1; «last_bus» = 2; edition = e }
+
+-- one of the old edition
 abbrev pub bridgeWith : (permitted held : ℕ) → Bridge
-bridgeWith p h = record { base = 0xE0000000; permitted = p; held = h; supported = 0; segment = 0; owner = record { 0 = 1 }; «first_bus» = 1; «last_bus» = 2 }
+bridgeWith p h = bridgeIn edition30 p h 0
 
 -- the owner's operation on it, as bridge 0 of one
 abbrev pub numberOn : Bridge → Operation → ℕ

@@ -2,26 +2,31 @@
 -- are demand 1 (exact refusals), demand 2 (the history) and demand 3 (separation).
 use mathlib.Core.Path.{_≡_}
 use mathlib.Core.Logic.{_↔_, _⊎_}
-use mathlib.Core.Bool.{Bool, true, false}
+use mathlib.Core.Bool.{Bool, true, false, not, cond, _&&_, _||_}
 use mathlib.Core.List.{List, [], _∷_, _++_, map}
 use mathlib.Core.Option.{Option, none, some}
-use Prim.Native.Nat.{ℕ, _+_, _*_, _≤_, _<_}
-use lib.Bits.{bitOr}
-use lib.ListN.{length, getD, take, drop}
-use Rattle.rules.specs.Limits.{maxRom}
-use Rattle.rules.specs.Lists.{every, pairwise}
-use Rattle.rules.specs.Numbers.{byte, word, dword, bit}
+use Prim.Native.Nat.{ℕ, _+_, _-_, _*_, _≤_, _<_}
+use lib.Bits.{bitAnd, bitOr}
+use lib.Dec.{eqb, leb}
+use lib.ListN.{length, getD, take, drop, replicate}
+use Rattle.rules.specs.Limits.{maxOwner, maxRom}
+use Rattle.rules.specs.Lists.{every, pairwise, isNone}
+use Rattle.rules.specs.Numbers.{byte, word, dword, le32, bit, within, number}
 use Rattle.rules.specs.Refusals.{GivenBy}
 use Rattle.rules.specs.Tables.{nothingHeld, holding, cleared, owns, bridgeAt}
 use Rattle.rules.specs.Place.{InReach}
-use Rattle.rules.specs.Start.{StartInput, startRefusals, startNumber, startTable, tableOf, Sound}
-use Rattle.rules.specs.Osc.{grantedBit, granted, uuidBytes, status, query, control}
+use Rattle.rules.specs.Start.{StartInput, entryOf, express, conventional, rowSound, startRefusals, startNumber, startTable, tableOf, Sound}
+use Rattle.rules.specs.Granting.{Needs, Largest, grantedBy}
+use Rattle.rules.specs.Editions.{edition30, controlBits}
+use Rattle.rules.specs.Osc.{declared, granted, grantStatus, uuidBytes, recognised, errorStatus, status, query, support, control, oscAnswer, oscAfter}
 use Rattle.rules.specs.Records.{andMask, orMask, meaningful, blockSound, deciding, recordIn, recordRefusals, findRecord, andOr}
 use Rattle.rules.specs.Rom.{imageSignature, structureAt, imagesOf, romSound, imageRefusals, findImage, Chain}
 use Rattle.rules.specs.Writer.{presentIn, writeRefusals, writeRecords, bufferAfter, readSettings, placeAmong, onlyRising, dwordsIn, areBytes}
 use Rattle.rules.specs.Calls.{osc, reset, address, Call, on, locate, Result, addressed, located, Outcome, outcome, step, listed, zerosOf, lentTo, tableAfter, sessionOf, callsOf, outcomesOf, widthOf}
 use Rattle.rules.specs.History.{reaches, historyStep, historyFrom}
 use Rattle.rules.specs.declared.Bridge.{Bridge}
+use Rattle.rules.specs.declared.BridgeRow.{BridgeRow}
+use Rattle.rules.specs.declared.Entry.{Entry}
 use Rattle.rules.specs.declared.BridgeNumber.{BridgeNumber}
 use Rattle.rules.specs.declared.SessionNumber.{SessionNumber}
 use Rattle.rules.specs.declared.Table.{Table}
@@ -32,15 +37,64 @@ use Rattle.rules.specs.declared.Place.{Place}
 use Rattle.rules.specs.declared.Holding.{Holding}
 use Rattle.rules.specs.declared.Settings.{Settings}
 
--- ---- the tests over lists and the granted set mean what they say
+-- ---- the tests over lists mean what they say
 
 abbrev pub EveryAndPair : Type 1
 EveryAndPair = (A : Type 0) (d : A) (l : List A)
     → ((p : A → Bool) → every p l ≡ true ↔ ((i : ℕ) → i < length l → p (getD l i d) ≡ true))
     × ((p : A → A → Bool) → pairwise p l ≡ true ↔ ((i j : ℕ) → i < j → j < length l → p (getD l i d) (getD l j d) ≡ true))
 
-abbrev pub GrantedBits : Type 0
-GrantedBits = (b : Bridge) (support requested i : ℕ) → bit (granted b support requested) i ≡ grantedBit b support requested i
+-- ---- document 02, d: what is granted
+
+-- whatever list of bits and needs, "the granted set is the largest set"; and a bridge grants that of its edition and of its own bits
+abbrev pub GrantedLargest : Type 0
+GrantedLargest =
+    ((bits : List Needs) (permitted held declared requested : ℕ) → Largest bits permitted held declared requested (grantedBy bits permitted held declared requested))
+    × ((b : Bridge) (support requested : ℕ) → Largest (controlBits (b .edition)) (b .permitted) (b .held) (declared b support) requested (granted b support requested))
+
+-- the granting rule as it was, of document 01 with document 02, b: the old edition's control bits from 0 up, each with the set of control bits that it needs
+abbrev pub oldNeeds : List ℕ
+oldNeeds =
+    0x10  -- 0 Express hot plug
+    ∷ 0  -- 1 SHPC hot plug
+    ∷ 0x10  -- 2 PME
+    ∷ 0x10  -- 3 AER
+    ∷ 0  -- 4 Express capability structure
+    ∷ []
+
+-- the bits "requested in the same call" that are "held or permitted"
+abbrev pub oldAvailable : Bridge → (requested : ℕ) → ℕ
+oldAvailable b requested = bitAnd requested (bitOr (b .held) (b .permitted))
+
+-- "a requested control bit is granted when it is 0 to 4 and either already held, or permitted and, for bits 0, 2 and 3", by b:
+-- "only if bit 4 is requested in the same call and is held or permitted"
+abbrev pub oldGrantedBit : Bridge → (requested i : ℕ) → Bool
+oldGrantedBit b requested i =
+    bit requested i && bit 0x1F i
+    && (bit (b .held) i || (bit (b .permitted) i && within (getD oldNeeds i 0) (oldAvailable b requested)))
+
+abbrev pub oldGranted : Bridge → (requested : ℕ) → ℕ
+oldGranted b requested = number 32 (oldGrantedBit b requested)
+
+-- what was sound of one row
+abbrev pub oldRowSound : List Entry → BridgeRow → Bool
+oldRowSound es r =
+    leb (r .owner .0) maxOwner && leb (r .«first_bus») (r .«last_bus») && not (isNone (entryOf es r)) && (eqb (r .kind) express || eqb (r .kind) conventional)
+    && within (r .permitted) (cond (eqb (r .kind) conventional) 0x02 0x1F)
+
+-- "Rows of the old edition answer as they did": what is granted, by that rule; the whole answer; what the bridge holds after it; which rows are sound
+abbrev pub OldRows : Type 0
+OldRows =
+    ((b : Bridge) → b .edition ≡ edition30
+    → ((w requested i : ℕ) → (bit (granted b w requested) i ≡ oldGrantedBit b requested i) × (granted b w requested ≡ oldGranted b requested))
+    × ((revision count : ℕ) (uuid caps : List ℕ)
+    → let g : ℕ = oldGranted b (control caps) in
+    (oscAnswer b revision count uuid caps ≡ cond (recognised revision count uuid)
+    (le32 (grantStatus (control caps) g) ++ le32 (support caps) ++ le32 g)
+    (le32 (errorStatus revision uuid) ++ replicate (4 * count - 4) 0))
+    × (oscAfter b revision count uuid caps ≡ cond (recognised revision count uuid && not (query caps))
+    (record { held = bitOr (b .held) g; supported = bitOr (b .supported) (bitAnd (support caps) 0x1F) }) (holding b))))
+    × ((es : List Entry) (r : BridgeRow) → r .edition ≡ edition30 → rowSound es r ≡ oldRowSound es r)
 
 -- ---- demand 1: a listed refusal exactly when its condition holds and none earlier does
 
@@ -137,7 +191,7 @@ ReadWrittenAgain = (block buffer : List ℕ) → areBytes block ≡ true → blo
 
 -- ---- what start leaves and every call keeps
 
--- a call changes no owner, segment, bus, base or permitted bit: the bridge is the same but for what it holds
+-- a call changes no owner, segment, bus, base, edition or permitted bit: the bridge is the same but for what it holds
 abbrev pub TablesSound : Type 0
 TablesSound =
     ((x : StartInput) → Sound (startTable x))
@@ -234,7 +288,7 @@ abbrev pub Undisturbed : Table → ℕ → List Call → Type 0
 Undisturbed t i [] = Unit {0}
 Undisturbed t i (c ∷ l) = ((h : Holding) → historyStep t i h c ≡ h) × Undisturbed t i l
 
--- "two queries and a taking call" to bridge n of s from the table t on, with the calls l and m between the three
+-- two queries and a taking call to bridge n of s from the table t on, with the calls l and m between the three
 module _ (t : Table) (s : SessionNumber) (n : BridgeNumber) (first second taking : Buffers) (l m : List Call) where
   abbrev pub atSecond : Table
   atSecond = tableAfter t (rightCall s n first ∷ l)
@@ -262,6 +316,10 @@ module _ (t : Table) (s : SessionNumber) (n : BridgeNumber) (first second taking
     pub taking-control : control (answerOf takingOutcome) ≡ returned
     pub held-after : bridgeAt (step atTaking (rightCall s n taking) .table) (n .0) .held ≡ bitOr (bridgeAt t (n .0) .held) returned
 
+-- document 02, d: "The three negotiating calls must now carry the same support field"; to a bridge of the old edition they need not, since no bit of it needs support
+abbrev pub SameSupport : Bridge → Buffers → Buffers → Type 0
+SameSupport b c d = (b .edition ≡ edition30) ⊎ (support (d .caps) ≡ support (c .caps))
+
 -- after any list of calls, by the owner
 abbrev pub Negotiation : Type 0
 Negotiation = (x : StartInput) (before l m : List Call) (s : SessionNumber) (n : BridgeNumber) (first second taking : Buffers)
@@ -269,6 +327,7 @@ Negotiation = (x : StartInput) (before l m : List Call) (s : SessionNumber) (n :
     n .0 < t .count → owns s (bridgeAt t (n .0)) ≡ true
     → query (first .caps) ≡ true → query (second .caps) ≡ true → query (taking .caps) ≡ false
     → Undisturbed t (n .0) l → Undisturbed t (n .0) m
+    → SameSupport (bridgeAt t (n .0)) first second → SameSupport (bridgeAt t (n .0)) first taking
     → control (second .caps) ≡ returned t s n first second taking l m
     → control (taking .caps) ≡ returned t s n first second taking l m
     → Negotiated t s n first second taking l m

@@ -1,12 +1,13 @@
 -- Document 01, "Proof of the pudding": "The list gives what they must be". Of the starting table only the number of bridges,
--- owners and permitted bits are read.
+-- owners, permitted bits and editions are read.
 use Prim.Native.Nat.{ℕ}
 use mathlib.Core.Bool.{Bool, not, cond, _&&_}
 use mathlib.Core.List.{List, [], _∷_}
 use lib.Bits.{bitAnd, bitOr}
 use lib.Dec.{eqb}
 use Rattle.rules.specs.Tables.{nothingHeld, withHolding, bridgeAt}
-use Rattle.rules.specs.Osc.{knownSupport, granted, framingBad, recognised, query, support, control}
+use Rattle.rules.specs.Editions.{knownSupport}
+use Rattle.rules.specs.Osc.{granted, framingBad, recognised, query, support, control}
 use Rattle.rules.specs.Calls.{absent, foreign, Call, on, locate, osc, reset, report, address, registerValues}
 use Rattle.rules.specs.declared.Bridge.{Bridge}
 use Rattle.rules.specs.declared.BridgeNumber.{BridgeNumber}
@@ -25,7 +26,7 @@ takes t i s n revision count uuid caps answer =
 
 -- "adds its granted bits to the held ones and its known support bits to the supported ones"
 abbrev pub added : Bridge → List ℕ → Holding
-added b caps = record { held = bitOr (b .held) (granted b (support caps) (control caps)); supported = bitOr (b .supported) (bitAnd (support caps) knownSupport) }
+added b caps = record { held = bitOr (b .held) (granted b (support caps) (control caps)); supported = bitOr (b .supported) (bitAnd (support caps) (knownSupport (b .edition))) }
 
 -- what bridge i holds after one more call, where it held h
 abbrev pub historyStep : Table → ℕ → Holding → Call → Holding

@@ -5,6 +5,8 @@ pub mod Refusals
 pub mod Tables
 pub mod Mcfg
 pub mod Place
+pub mod Granting
+pub mod Editions
 pub mod Osc
 pub mod Start
 pub mod Parts

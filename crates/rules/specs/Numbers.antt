@@ -4,7 +4,7 @@ use mathlib.Core.Bool.{Bool, true, false, cond, _&&_}
 use mathlib.Core.List.{List, [], _∷_, _++_}
 use lib.Dec.{eqb}
 use lib.ListN.{getD}
-use lib.Bits.{bitAnd}
+use lib.Bits.{bitAnd, bitOr}
 
 -- the byte at i
 abbrev pub byte : List ℕ → ℕ → ℕ
@@ -46,6 +46,11 @@ sameBytes (x ∷ l) (y ∷ m) = eqb x y && sameBytes l m
 -- bit i of a number
 unfoldable pub bit : ℕ → ℕ → Bool
 bit x i = eqb (x / 2 ^ i % 2) 1
+
+-- the set of these bits
+abbrev pub setOf : List ℕ → ℕ
+setOf [] = 0
+setOf (i ∷ l) = bitOr (2 ^ i) (setOf l)
 
 -- each bit of x is one of y
 abbrev pub within : ℕ → ℕ → Bool

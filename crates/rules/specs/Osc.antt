@@ -1,46 +1,24 @@
--- Document 01, "Granting control": the granting rule, _OSC framing, the answer, and what a call adds.
+-- Document 01, "Granting control": what a bridge grants, _OSC framing, the answer, and what a call adds.
 use Prim.Native.Nat.{ℕ, _-_, _*_}
 use mathlib.Core.Bool.{Bool, not, cond, _&&_, _||_}
 use mathlib.Core.List.{List, [], _∷_, _++_}
 use lib.Bits.{bitAnd, bitOr}
 use lib.Dec.{eqb, ltb}
-use lib.ListN.{length, getD, replicate}
-use Rattle.rules.specs.Numbers.{dword, le32, sameBytes, bit, within, number}
+use lib.ListN.{length, replicate}
+use Rattle.rules.specs.Numbers.{dword, le32, sameBytes, bit, within}
 use Rattle.rules.specs.Tables.{holding}
+use Rattle.rules.specs.Granting.{grantedBy}
+use Rattle.rules.specs.Editions.{controlBits, knownSupport}
 use Rattle.rules.specs.declared.Bridge.{Bridge}
 use Rattle.rules.specs.declared.Holding.{Holding}
 
--- the control bits from 0 up, each with the set of control bits that it needs
-abbrev pub controlNeeds : List ℕ
-controlNeeds =
-    0x10  -- 0 Express hot plug
-    ∷ 0  -- 1 SHPC hot plug
-    ∷ 0x10  -- 2 PME
-    ∷ 0x10  -- 3 AER
-    ∷ 0  -- 4 Express capability structure
-    ∷ []
+-- "declared (among the supported bits or the known ones of this call)"
+abbrev pub declared : Bridge → (support : ℕ) → ℕ
+declared b support = bitOr (b .supported) (bitAnd support (knownSupport (b .edition)))
 
--- "control (0 Express hot plug, .., 4 Express capability structure)"; "support (bits 0 to 4 known)"
-abbrev pub knownControl : ℕ
-knownControl = 0x1F
-
-abbrev pub knownSupport : ℕ
-knownSupport = 0x1F
-
--- document 02, b: the bits "requested in the same call" that are "held or permitted"
-abbrev pub available : Bridge → ℕ → ℕ
-available b requested = bitAnd requested (bitOr (b .held) (b .permitted))
-
--- "a requested control bit is granted when it is 0 to 4 and either already held, or permitted and, for bits 0, 2 and 3", document 02, b:
--- "only if bit 4 is requested in the same call and is held or permitted"; the support DWORD does not count
-abbrev pub grantedBit : Bridge → (support requested i : ℕ) → Bool
-grantedBit b support requested i =
-    bit requested i && bit knownControl i
-    && (bit (b .held) i || (bit (b .permitted) i && within (getD controlNeeds i 0) (available b requested)))
-
--- the granted bits of the 32 of the control DWORD
+-- document 02, d: "the granted set", by the control bits of the bridge's edition
 unfoldable pub granted : Bridge → (support requested : ℕ) → ℕ
-granted b support requested = number 32 (grantedBit b support requested)
+granted b support requested = grantedBy (controlBits (b .edition)) (b .permitted) (b .held) (declared b support) requested
 
 -- "status 0x10 if any requested bit is not granted, else 0"
 abbrev pub grantStatus : (requested granted : ℕ) → ℕ
@@ -90,7 +68,7 @@ oscAnswer b revision count uuid caps =
 
 -- "granted bits join the held ones and known support bits join the supported ones"
 abbrev pub joined : Bridge → List ℕ → Holding
-joined b caps = record { held = bitOr (b .held) (granted b (support caps) (control caps)); supported = bitOr (b .supported) (bitAnd (support caps) knownSupport) }
+joined b caps = record { held = bitOr (b .held) (granted b (support caps) (control caps)); supported = declared b (support caps) }
 
 -- "A query changes nothing", nor does a call with another UUID, revision or Count
 unfoldable pub oscAfter : Bridge → (revision count : ℕ) (uuid caps : List ℕ) → Holding

@@ -13,7 +13,7 @@ use Rattle.rules.specs.Refusals.{Refusal, _if_, firstOf}
 use Rattle.rules.specs.Mcfg.{entries, mcfgSound, busesApart, busEnd}
 use Rattle.rules.specs.Tables.{unused, tableWith, bridgeAt}
 use Rattle.rules.specs.Place.{inWindow}
-use Rattle.rules.specs.Osc.{knownControl}
+use Rattle.rules.specs.Editions.{edition30, edition33, knownControl}
 use Rattle.rules.specs.declared.Bridge.{Bridge}
 use Rattle.rules.specs.declared.BridgeNumber.{BridgeNumber}
 use Rattle.rules.specs.declared.BridgeRow.{BridgeRow}
@@ -45,9 +45,9 @@ express = 0
 abbrev pub conventional : ℕ
 conventional = 1
 
--- the control bits that a row of this kind may permit
-abbrev pub permissible : ℕ → ℕ
-permissible kind = cond (eqb kind conventional) 0x02 knownControl
+-- the control bits that a row of this kind and edition may permit: those known, but "a conventional row of either still permits no bit but 1"
+abbrev pub permissible : (kind edition : ℕ) → ℕ
+permissible kind edition = cond (eqb kind conventional) 0x02 (knownControl edition)
 
 -- what is sound of one row
 abbrev pub rowSound : List Entry → BridgeRow → Bool
@@ -56,8 +56,8 @@ rowSound es r =
     && leb (r .«first_bus») (r .«last_bus»)  -- first not above last
     && not (isNone (entryOf es r))  -- the row's buses lie inside one MCFG entry of its segment
     && (eqb (r .kind) express || eqb (r .kind) conventional)  -- Express or conventional
-    && within (r .permitted) knownControl  -- no permitted bit above 4
-    && within (r .permitted) (permissible (r .kind))  -- a conventional row permits no bit but 1
+    && (eqb (r .edition) edition30 || eqb (r .edition) edition33)  -- document 02, d: the old edition or 3.3
+    && within (r .permitted) (permissible (r .kind) (r .edition))  -- document 02, d: no "permitted bits not known in the row's edition"
 
 -- "two rows of one segment share no bus"
 abbrev pub rowsApart : BridgeRow → BridgeRow → Bool
@@ -89,6 +89,7 @@ bridgeOf es r = record {
   owner = r .owner;
   «first_bus» = r .«first_bus»;
   «last_bus» = r .«last_bus»;
+  edition = r .edition;
 }
 
 -- "Bridges are numbered from 0 in list order"

@@ -28,6 +28,7 @@ withHolding b h = record {
   owner = b .owner;
   «first_bus» = b .«first_bus»;
   «last_bus» = b .«last_bus»;
+  edition = b .edition;
 }
 
 -- the bridge with nothing held
@@ -40,11 +41,11 @@ owns s b = eqb (b .owner .0) (s .0)
 
 -- what a reading past the end of the table's array would give; no call's answer rests on it
 abbrev pub noBridge : Bridge
-noBridge = record { base = 0; permitted = 0; held = 0; supported = 0; segment = 0; owner = record { 0 = 0 }; «first_bus» = 0; «last_bus» = 0 }
+noBridge = record { base = 0; permitted = 0; held = 0; supported = 0; segment = 0; owner = record { 0 = 0 }; «first_bus» = 0; «last_bus» = 0; edition = 0 }
 
 -- what stands where the table has no bridge
 abbrev pub unused : Bridge
-unused = record { base = 0; permitted = 0; held = 0; supported = 0; segment = 0; owner = record { 0 = 0 }; «first_bus» = 0; «last_bus» = 0 }
+unused = record { base = 0; permitted = 0; held = 0; supported = 0; segment = 0; owner = record { 0 = 0 }; «first_bus» = 0; «last_bus» = 0; edition = 0 }
 
 -- a table of its parts
 abbrev pub tableWith : (bridges : List Bridge) (count : ℕ) → Table

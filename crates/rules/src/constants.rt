@@ -14,10 +14,18 @@ pub const EXPRESS: u8 = 0;
 
 pub const CONVENTIONAL: u8 = 1;
 
-// The known bits of specs/Osc.
-pub const KNOWN_CONTROL: u32 = 0x1f;
+// The editions of specs/Editions, and their known bits.
+pub const EDITION_3_0: u8 = 0;
 
-pub const KNOWN_SUPPORT: u32 = 0x1f;
+pub const EDITION_3_3: u8 = 1;
+
+pub const KNOWN_CONTROL_3_0: u32 = 0x1f;
+
+pub const KNOWN_CONTROL_3_3: u32 = 0x3ff;
+
+pub const KNOWN_SUPPORT_3_0: u32 = 0x1f;
+
+pub const KNOWN_SUPPORT_3_3: u32 = 0x1ff;
 
 // The bytes of a bus, a device and a function in a window of specs/Place.
 pub const BUS_BYTES: u64 = 0x10_0000;

@@ -11,7 +11,7 @@ pub struct SessionNumber(pub u8);
 #[repr(C)]
 pub struct BridgeNumber(pub u8);
 
-// A row of the starting list; its kind is 0, Express, or 1, conventional.
+// A row of the starting list; its kind is 0, Express, or 1, conventional; its edition of the control field 0, the old one, or 1, 3.3.
 #[repr(C)]
 pub struct BridgeRow {
     pub permitted: u32,
@@ -20,6 +20,7 @@ pub struct BridgeRow {
     pub first_bus: u8,
     pub last_bus: u8,
     pub kind: u8,
+    pub edition: u8,
 }
 
 // What the table keeps of a host bridge.
@@ -33,6 +34,7 @@ pub struct Bridge {
     pub owner: SessionNumber,
     pub first_bus: u8,
     pub last_bus: u8,
+    pub edition: u8,
 }
 
 // Bridges 0 to count - 1 stand first; the rest of the array is unused.

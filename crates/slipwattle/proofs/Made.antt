@@ -3,22 +3,24 @@
 -- Each claim is used here at a type that is written out, so that one that is missing or renamed, or that says less, is an error.
 use mathlib.Core.Path.{_≡_, refl, sym, ap, subst, _∙_}
 use mathlib.Core.Logic.{_↔_, _⊎_}
-use mathlib.Core.Bool.{Bool, true, false, cond}
+use mathlib.Core.Bool.{Bool, true, false, not, cond, _&&_, _||_}
 use mathlib.Core.List.{List, [], _∷_, _++_, map}
-use Prim.Native.Nat.{ℕ, suc, _+_, _*_, _≤_, _<_}
+use Prim.Native.Nat.{ℕ, suc, _+_, _-_, _*_, _≤_, _<_}
 use native.Mathlib.Omega.{arith}
 use lib.Bits.{bitAnd, bitOr}
-use lib.Dec.{ltb}
-use lib.ListN.{length, getD, take, drop}
+use lib.Dec.{eqb, leb, ltb}
+use lib.ListN.{length, getD, take, drop, replicate}
 use mathlib.Core.Option.{some}
-use Rattle.rules.specs.Limits.{maxRom}
-use Rattle.rules.specs.Numbers.{byte, word, dword, bit, within}
-use Rattle.rules.specs.Lists.{every, pairwise}
+use Rattle.rules.specs.Limits.{maxOwner, maxRom}
+use Rattle.rules.specs.Numbers.{byte, word, dword, le32, bit, within, number}
+use Rattle.rules.specs.Lists.{every, pairwise, isNone}
 use Rattle.rules.specs.Refusals.{GivenBy}
 use Rattle.rules.specs.Tables.{nothingHeld, holding, cleared, owns, bridgeAt}
 use Rattle.rules.specs.Place.{InReach}
-use Rattle.rules.specs.Start.{StartInput, startRefusals, startNumber, startTable, tableOf, Sound}
-use Rattle.rules.specs.Osc.{grantedBit, granted, status, query, control}
+use Rattle.rules.specs.Start.{StartInput, entryOf, rowSound, startRefusals, startNumber, startTable, tableOf, Sound}
+use Rattle.rules.specs.Granting.{Needs, grantedBy}
+use Rattle.rules.specs.Editions.{controlBits, knownSupport}
+use Rattle.rules.specs.Osc.{granted, recognised, errorStatus, status, query, support, control, oscAnswer, oscAfter}
 use Rattle.rules.specs.Records.{andMask, orMask, blockSound, deciding, recordIn, recordRefusals, findRecord}
 use Rattle.rules.specs.Rom.{imageSignature, structureAt, imagesOf, romSound, imageRefusals, findImage, Chain}
 use Rattle.rules.specs.Writer.{Setting, presentIn, writeRefusals, writeRecords, bufferAfter, readSettings, placeAmong, onlyRising}
@@ -26,9 +28,11 @@ use Rattle.rules.specs.Calls.{Call, on, osc, reset, locate, Result, addressed, 
 use Rattle.rules.specs.History.{reaches, historyFrom}
 use Rattle.rules.specs.Claims.{acpiBit, addressCall, answers, Given, Separate, Buffers, rightCall, answerOf, Undisturbed, atTaking, secondOutcome, takingOutcome, returned, Negotiated}
 use Rattle.rules.specs.BenchSheet.{AllHold, sheet}
-use Rattle.rules.specs.BenchRuns.{starts, run, searches, masks, writes, reads, images, romSizes, registers, grants, places}
+use Rattle.rules.specs.BenchRuns.{starts, run, searches, masks, writes, reads, images, romSizes, registers, grants, editions, mixed, places}
 use Rattle.rules.specs.declared.Table.{Table}
 use Rattle.rules.specs.declared.Bridge.{Bridge}
+use Rattle.rules.specs.declared.BridgeRow.{BridgeRow}
+use Rattle.rules.specs.declared.Entry.{Entry}
 use Rattle.rules.specs.declared.Field.{Field}
 use Rattle.rules.specs.declared.FoundAt.{FoundAt}
 use Rattle.rules.specs.declared.Image.{Image}
@@ -269,6 +273,7 @@ pub negotiated : (x : StartInput) (before l m : List Call) (s : SessionNumber) (
     n .0 < t .count → owns s (bridgeAt t (n .0)) ≡ true
     → query (f .caps) ≡ true → query (g .caps) ≡ true → query (h .caps) ≡ false
     → Undisturbed t (n .0) l → Undisturbed t (n .0) m
+    → (bridgeAt t (n .0) .edition ≡ 0) ⊎ (support (g .caps) ≡ support (f .caps)) → (bridgeAt t (n .0) .edition ≡ 0) ⊎ (support (h .caps) ≡ support (f .caps))
     → control (g .caps) ≡ returned t s n f g h l m → control (h .caps) ≡ returned t s n f g h l m
     → Negotiated t s n f g h l m
 negotiated = all-claims .negotiation
@@ -290,12 +295,60 @@ pub every-and-pair : (A : Type 0) (d : A) (l : List A)
     × ((p : A → A → Bool) → pairwise p l ≡ true ↔ ((i j : ℕ) → i < j → j < length l → p (getD l i d) (getD l j d) ≡ true))
 every-and-pair = all-claims .every-and-pair
 
-pub granted-bits : (b : Bridge) (support requested i : ℕ) → bit (granted b support requested) i ≡ grantedBit b support requested i
-granted-bits = all-claims .granted-bits
+-- the granted set of any list of bits and needs: each of its bits is requested, known, and held or permitted with its needs; and every other set of such bits lies within it
+module _ (bits : List Needs) (permitted held declared requested : ℕ) where
+  -- the control bits that bit i needs, and the support bits
+  abbrev controls : ℕ → ℕ
+  controls i = getD bits i (record { controls = 0; supports = 0 }) .controls
+
+  abbrev supports : ℕ → ℕ
+  supports i = getD bits i (record { controls = 0; supports = 0 }) .supports
+
+  abbrev FitsIn : ℕ → Type 0
+  FitsIn set = (i : ℕ) → bit set i ≡ true
+      → (bit requested i ≡ true) × (i < length bits) × ((bit held i || (bit permitted i && within (controls i) set && within (supports i) declared)) ≡ true)
+
+  abbrev Largest : ℕ → Type 0
+  Largest set = FitsIn set × ((other : ℕ) → FitsIn other → within other set ≡ true)
+
+  pub set-largest : Largest (grantedBy bits permitted held declared requested)
+  set-largest = let l = all-claims .granted-largest .0 bits permitted held declared requested in (l .fits, l .largest)
+
+-- a bridge's, by its edition and its own bits
+pub bridge-grants : (b : Bridge) (w requested : ℕ)
+    → Largest (controlBits (b .edition)) (b .permitted) (b .held) (bitOr (b .supported) (bitAnd w (knownSupport (b .edition)))) requested (granted b w requested)
+bridge-grants b w requested = let l = all-claims .granted-largest .1 b w requested in (l .fits, l .largest)
+
+-- what each bit of edition 3.3 needs, and how many there are
+pub needs-33 : (map (λ (x : Needs). x .controls) (controlBits 1) ≡ (0x10 ∷ 0x10 ∷ 0x10 ∷ 0x90 ∷ 0 ∷ 0x10 ∷ 0 ∷ 0x18 ∷ 0x10 ∷ 0 ∷ []))
+    × (map (λ (x : Needs). x .supports) (controlBits 1) ≡ (0 ∷ 0 ∷ 0 ∷ 0 ∷ 0 ∷ 0 ∷ 0 ∷ 0x80 ∷ 0 ∷ 0 ∷ [])) × (knownSupport 1 ≡ 0x1FF)
+unfolding controlBits knownSupport
+needs-33 = (refl, refl, refl)
+
+-- rows of the old edition answer as they did
+abbrev oldRule : Bridge → ℕ → ℕ → Bool
+oldRule b requested i =
+    bit requested i && bit 0x1F i && (bit (b .held) i || (bit (b .permitted) i && within (getD (0x10 ∷ 0 ∷ 0x10 ∷ 0x10 ∷ 0 ∷ []) i 0) (bitAnd requested (bitOr (b .held) (b .permitted)))))
+
+module _ (b : Bridge) (e : b .edition ≡ 0) where
+  pub old-granted : (w requested i : ℕ) → (bit (granted b w requested) i ≡ oldRule b requested i) × (granted b w requested ≡ number 32 (oldRule b requested))
+  old-granted = all-claims .old-rows .0 b e .0
+
+  pub old-answer : (revision count : ℕ) (uuid caps : List ℕ) → let g : ℕ = number 32 (oldRule b (control caps)) in
+      (oscAnswer b revision count uuid caps ≡ cond (recognised revision count uuid)
+      (le32 (cond (within (control caps) g) 0 0x10) ++ le32 (support caps) ++ le32 g)
+      (le32 (errorStatus revision uuid) ++ replicate (4 * count - 4) 0))
+      × (oscAfter b revision count uuid caps ≡ cond (recognised revision count uuid && not (query caps))
+      (record { held = bitOr (b .held) g; supported = bitOr (b .supported) (bitAnd (support caps) 0x1F) }) (holding b))
+  old-answer = all-claims .old-rows .0 b e .1
+
+pub old-row-sound : (es : List Entry) (r : BridgeRow) → r .edition ≡ 0 → rowSound es r ≡ (leb (r .owner .0) maxOwner && leb (r .«first_bus») (r .«last_bus»)
+    && not (isNone (entryOf es r)) && (eqb (r .kind) 0 || eqb (r .kind) 1) && within (r .permitted) (cond (eqb (r .kind) 1) 0x02 0x1F))
+old-row-sound = all-claims .old-rows .1
 
 -- as many lines as there are, and all hold
-pub lines : AllHold sheet × (AllHold starts × AllHold run × AllHold searches × AllHold masks × AllHold writes × AllHold reads × AllHold images × AllHold romSizes × AllHold registers × AllHold grants × AllHold places)
+pub lines : AllHold sheet × (AllHold starts × AllHold run × AllHold searches × AllHold masks × AllHold writes × AllHold reads × AllHold images × AllHold romSizes × AllHold registers × AllHold grants × AllHold editions × AllHold mixed × AllHold places)
 lines = (all-claims .bench-sheet, all-claims .example-runs)
 
-pub how-many : (length sheet ≡ 14) × (length starts ≡ 28) × (length run ≡ 1) × (length searches ≡ 17) × (length masks ≡ 33) × (length writes ≡ 53) × (length reads ≡ 11) × (length images ≡ 29) × (length romSizes ≡ 2) × (length registers ≡ 11) × (length grants ≡ 5) × (length places ≡ 13)
-how-many = (refl, refl, refl, refl, refl, refl, refl, refl, refl, refl, refl, refl)
+pub how-many : (length sheet ≡ 14) × (length starts ≡ 42) × (length run ≡ 1) × (length searches ≡ 17) × (length masks ≡ 33) × (length writes ≡ 53) × (length reads ≡ 11) × (length images ≡ 29) × (length romSizes ≡ 2) × (length registers ≡ 11) × (length grants ≡ 5) × (length editions ≡ 48) × (length mixed ≡ 1) × (length places ≡ 13)
+how-many = (refl, refl, refl, refl, refl, refl, refl, refl, refl, refl, refl, refl, refl, refl)

@@ -6,7 +6,7 @@ use mathlib.Core.List.{List, [], _∷_}
 use lib.Dec.{eqb, leb}
 use Rattle.rules.specs.Limits.{maxRows, maxOwner}
 use Rattle.rules.specs.Numbers.{within}
-use Rattle.rules.specs.Osc.{knownControl}
+use Rattle.rules.specs.Editions.{edition30, edition33}
 use Rattle.rules.specs.Refusals.{_if_, firstOf}
 use Rattle.rules.specs.Mcfg.{mcfgSound}
 use Rattle.rules.specs.Tables.{tableWith}
@@ -19,7 +19,8 @@ use Rattle.rules.specs.declared.Started.{Started}
 abbrev pub rowSoundIf : (inside : Bool) → BridgeRow → Bool
 rowSoundIf inside r =
     leb (r .owner .0) maxOwner && leb (r .«first_bus») (r .«last_bus») && inside && (eqb (r .kind) express || eqb (r .kind) conventional)
-    && within (r .permitted) knownControl && within (r .permitted) (permissible (r .kind))
+    && (eqb (r .edition) edition30 || eqb (r .edition) edition33)
+    && within (r .permitted) (permissible (r .kind) (r .edition))
 
 -- what start refuses before it judges a row: 6, the MCFG table; 7, more rows than a table holds
 abbrev pub firstNumber : List ℕ → ℕ → ℕ

@@ -5,28 +5,42 @@ use rules::SessionNumber;
 use rules::Started;
 use rules::Table;
 use rules::constants::CONVENTIONAL;
+use rules::constants::EDITION_3_0;
+use rules::constants::EDITION_3_3;
 use rules::constants::EXPRESS;
-use rules::constants::KNOWN_CONTROL;
+use rules::constants::KNOWN_CONTROL_3_0;
+use rules::constants::KNOWN_CONTROL_3_3;
 use rules::constants::MAX_OWNER;
 ghost use mathlib.Core.Path.{_≡_};
 ghost use mathlib.Core.Bool.{cond, _&&_};
 ghost use lib.Dec.{eqb};
 ghost use Rattle.rules.specs.Mcfg.{entries};
 ghost use Rattle.rules.specs.Tables.{unused, tableWith};
+ghost use Rattle.rules.specs.Editions.{knownControl};
 ghost use Rattle.rules.specs.Start.{permissible, rowSound, rowsApart, bridgeOf};
 ghost use Rattle.start.specs.Admission.{rowSoundIf, firstNumber, startedWith};
 
 // Control bit 1.
 const SHPC: u32 = 0x02;
 
-// The control bits that a row of this kind may permit.
-fn permissible(kind: u8) -> u32
-    ensures { λ r. ⌜ r ≡ permissible kind ⌝ }
+// The control bits that an edition knows.
+fn known_control(edition: u8) -> u32
+    ensures { λ r. ⌜ r ≡ knownControl edition ⌝ }
+{
+    if edition == EDITION_3_3 {
+        return KNOWN_CONTROL_3_3;
+    }
+    KNOWN_CONTROL_3_0
+}
+
+// The control bits that a row of this kind may permit, of those that its edition knows.
+fn permissible(kind: u8, edition: u8) -> u32
+    ensures { λ r. ⌜ r ≡ permissible kind edition ⌝ }
 {
     if kind == CONVENTIONAL {
         return SHPC;
     }
-    KNOWN_CONTROL
+    known_control(edition)
 }
 
 // What is sound of one row that lies inside an entry, or in none.
@@ -34,12 +48,12 @@ fn row_sound(row: BridgeRow, inside: bool) -> bool
     ensures { λ r. ⌜ r ≡ rowSoundIf inside row ⌝ }
 {
     let owner = row.owner;
-    let mask = permissible(row.kind);
+    let mask = permissible(row.kind, row.edition);
     (owner.0 <= MAX_OWNER)
         & (row.first_bus <= row.last_bus)
         & inside
         & ((row.kind == EXPRESS) | (row.kind == CONVENTIONAL))
-        & (row.permitted & KNOWN_CONTROL == row.permitted)
+        & ((row.edition == EDITION_3_0) | (row.edition == EDITION_3_3))
         & (row.permitted & mask == row.permitted)
 }
 
@@ -74,6 +88,7 @@ pub fn unused() -> Bridge
         owner,
         first_bus: 0,
         last_bus: 0,
+        edition: 0,
     }
 }
 
@@ -94,6 +109,7 @@ pub fn admit(mcfg: &[u8], row: BridgeRow, apart: bool) -> Admitted
             owner,
             first_bus: row.first_bus,
             last_bus: row.last_bus,
+            edition: row.edition,
         };
         return Admitted { number: 0, bridge };
     }

@@ -7,6 +7,8 @@ use rules::BridgeRow;
 use rules::SessionNumber;
 use rules::Started;
 use rules::constants::CONVENTIONAL;
+use rules::constants::EDITION_3_0;
+use rules::constants::EDITION_3_3;
 use rules::constants::EXPRESS;
 use start_array::LIST_ROWS;
 ghost use Rattle.rules.specs.Start.{Sound};
@@ -45,28 +47,37 @@ fn rows(sum: u8, count: usize) {
     ));
 }
 
-// Such a table, and a row of this owner.
-fn both(sum: u8, owner: u8) {
-    print::decimals(b"both", &[sum as u64, owner as u64]);
-    let rows = [fixtures::row(owner, 16, 31, 0); LIST_ROWS];
+// Such a table, and a row of this owner and edition.
+fn both(sum: u8, owner: u8, edition: u8) {
+    print::decimals(b"both", &[sum as u64, owner as u64, edition as u64]);
+    let rows = [fixtures::any_row(owner, 0, 16, 31, EXPRESS, edition, 0); LIST_ROWS];
     came(fixtures::start_on(&mcfg_table::with_sum(sum), 60, rows, 1));
 }
 
 // One row for bus 16 of segment 0.
-fn one(owner: u8, kind: u8, permitted: u32) {
-    print::decimals(b"row", &[owner as u64, kind as u64]);
+fn one(owner: u8, kind: u8, edition: u8, permitted: u32) {
+    print::decimals(b"row", &[owner as u64, kind as u64, edition as u64]);
     print::hexes(b"", &[permitted as u64]);
     came(start(
-        [fixtures::any_row(owner, 0, 16, 16, kind, permitted); LIST_ROWS],
+        [fixtures::any_row(owner, 0, 16, 16, kind, edition, permitted); LIST_ROWS],
         1,
     ));
+}
+
+// Express rows for buses 16 and 17 of segment 0.
+fn two_rows(edition: u8, next_edition: u8, permitted: u32, next_permitted: u32) {
+    print::decimals(b"two rows", &[edition as u64, next_edition as u64]);
+    print::hexes(b"", &[permitted as u64, next_permitted as u64]);
+    let mut rows = [fixtures::any_row(1, 0, 16, 16, EXPRESS, edition, permitted); LIST_ROWS];
+    rows[1] = fixtures::any_row(2, 0, 17, 17, EXPRESS, next_edition, next_permitted);
+    came(start(rows, 2));
 }
 
 // One Express row of session 1: its bridge's first address, and what it holds.
 fn buses(segment: u16, first: u8, last: u8) {
     print::decimals(b"buses", &[segment as u64, first as u64, last as u64]);
     let started = start(
-        [fixtures::any_row(1, segment, first, last, EXPRESS, 0x1f); LIST_ROWS],
+        [fixtures::any_row(1, segment, first, last, EXPRESS, EDITION_3_0, 0x1f); LIST_ROWS],
         1,
     );
     let t = started.table;
@@ -96,28 +107,28 @@ fn third(bus: u8, segment: u16, first: u8, last: u8) {
         b"third row",
         &[bus as u64, segment as u64, first as u64, last as u64],
     );
-    let mut rows = [fixtures::any_row(1, 0, 20, 23, EXPRESS, 0); LIST_ROWS];
-    rows[1] = fixtures::any_row(1, 0, bus, bus, EXPRESS, 0);
-    rows[2] = fixtures::any_row(2, segment, first, last, EXPRESS, 0);
+    let mut rows = [fixtures::any_row(1, 0, 20, 23, EXPRESS, EDITION_3_0, 0); LIST_ROWS];
+    rows[1] = fixtures::any_row(1, 0, bus, bus, EXPRESS, EDITION_3_0, 0);
+    rows[2] = fixtures::any_row(2, segment, first, last, EXPRESS, EDITION_3_0, 0);
     came(start(rows, 3));
 }
 
 // "Start 6, 7."; 0 to 64 rows; owner not above 63 (document 02, e)
 fn rows_and_owners() {
     print::text(
-        b"(rows: sum of the MCFG table, number of rows; both: that sum, owner of a row; row: owner, kind, permitted bits)\n",
+        b"(rows: sum of the MCFG table, number of rows; both: that sum, owner and edition of a row; row: owner, kind, edition, permitted bits)\n",
     );
     rows(0, 0);
     rows(0, 64);
     rows(0, 65);
     rows(1, 64);
     rows(1, 65);
-    both(0, 64);
-    both(1, 64);
-    one(0, EXPRESS, 0x1f);
-    one(63, EXPRESS, 0x1f);
-    one(64, EXPRESS, 0x1f);
-    one(255, EXPRESS, 0x1f);
+    both(0, 64, EDITION_3_0);
+    both(1, 64, EDITION_3_0);
+    one(0, EXPRESS, EDITION_3_0, 0x1f);
+    one(63, EXPRESS, EDITION_3_0, 0x1f);
+    one(64, EXPRESS, EDITION_3_0, 0x1f);
+    one(255, EXPRESS, EDITION_3_0, 0x1f);
 }
 
 // "first not above last; the row's buses lie inside one MCFG entry of its segment, whose base the row takes"; "Held and supported bits start at 0"
@@ -156,16 +167,56 @@ fn shared_buses() {
 
 // "no permitted bit above 4; a conventional row permits no bit but 1"
 fn permitted() {
-    print::text(b"(row: owner, kind, permitted bits)\n");
-    one(1, EXPRESS, 0x20);
-    one(1, EXPRESS, 0x8000_0000);
-    one(1, CONVENTIONAL, 0);
-    one(1, CONVENTIONAL, 0x02);
-    one(1, CONVENTIONAL, 0x03);
-    one(1, CONVENTIONAL, 0x06);
-    one(1, CONVENTIONAL, 0x0a);
-    one(1, CONVENTIONAL, 0x12);
-    one(1, 2, 0x02);
+    print::text(b"(row: owner, kind, edition, permitted bits)\n");
+    one(1, EXPRESS, EDITION_3_0, 0x20);
+    one(1, EXPRESS, EDITION_3_0, 0x8000_0000);
+    one(1, CONVENTIONAL, EDITION_3_0, 0);
+    one(1, CONVENTIONAL, EDITION_3_0, 0x02);
+    one(1, CONVENTIONAL, EDITION_3_0, 0x03);
+    one(1, CONVENTIONAL, EDITION_3_0, 0x06);
+    one(1, CONVENTIONAL, EDITION_3_0, 0x0a);
+    one(1, CONVENTIONAL, EDITION_3_0, 0x12);
+    one(1, 2, EDITION_3_0, 0x02);
+}
+
+// Document 02, d: the edition is "chosen per bridge row at start"; "Refusal 7 now forbids permitted bits not known in the row's edition"
+fn editions() {
+    print::text(b"(row: as above; both: sum of the MCFG table, owner and edition of a row)\n");
+    one(1, EXPRESS, EDITION_3_0, 0);
+    one(1, EXPRESS, EDITION_3_3, 0);
+    one(1, EXPRESS, 2, 0);
+    one(1, EXPRESS, 128, 0);
+    one(1, EXPRESS, 255, 0);
+    both(0, 1, 2);
+    both(1, 1, 2);
+    one(1, EXPRESS, EDITION_3_3, 0x3ff);
+    one(1, EXPRESS, EDITION_3_3, 0x200);
+    one(1, EXPRESS, EDITION_3_3, 0x400);
+    one(1, EXPRESS, EDITION_3_3, 0x8000_0000);
+    one(1, EXPRESS, EDITION_3_0, 0x200);
+}
+
+// "a conventional row of either still permits no bit but 1"
+fn conventional() {
+    one(1, CONVENTIONAL, EDITION_3_3, 0);
+    one(1, CONVENTIONAL, EDITION_3_3, 0x02);
+    one(1, CONVENTIONAL, EDITION_3_3, 0x01);
+    one(1, CONVENTIONAL, EDITION_3_3, 0x12);
+    one(1, CONVENTIONAL, EDITION_3_3, 0x20);
+    one(1, CONVENTIONAL, EDITION_3_3, 0x202);
+    one(1, CONVENTIONAL, 2, 0x02);
+    one(1, 2, EDITION_3_3, 0x02);
+}
+
+// Rows of both editions.
+fn mixed() {
+    print::text(b"(two rows: their editions, their permitted bits)\n");
+    two_rows(EDITION_3_3, EDITION_3_0, 0x3ff, 0x1f);
+    two_rows(EDITION_3_3, EDITION_3_0, 0x3ff, 0x20);
+    two_rows(EDITION_3_0, EDITION_3_3, 0x1f, 0x3ff);
+    two_rows(EDITION_3_0, EDITION_3_3, 0x20, 0x3ff);
+    two_rows(EDITION_3_0, EDITION_3_3, 0x1f, 0x400);
+    two_rows(EDITION_3_3, 2, 0x3ff, 0);
 }
 
 pub fn lines() {
@@ -174,4 +225,7 @@ pub fn lines() {
     inside();
     shared_buses();
     permitted();
+    editions();
+    conventional();
+    mixed();
 }

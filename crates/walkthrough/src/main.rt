@@ -6,14 +6,20 @@ use rules::BridgeNumber;
 use rules::BridgeRow;
 use rules::SessionNumber;
 use rules::Table;
+use rules::constants::EDITION_3_3;
+use rules::constants::EXPRESS;
+use rules::constants::KNOWN_CONTROL_3_0;
+use rules::constants::KNOWN_CONTROL_3_3;
+use rules::constants::KNOWN_SUPPORT_3_0;
+use rules::constants::KNOWN_SUPPORT_3_3;
 ghost use Prim.Native.Nat.{_≤_};
 ghost use Rattle.rules.specs.Start.{Sound};
 
 // The base of the MCFG entry.
 const BASE: u64 = 0xe000_0000;
 
-// Control bits 0 to 4; as a support DWORD, every known bit.
-const ALL: u32 = 0x1f;
+// What the plant's bridge permits: bits 0, 1, 2 and 4, and 5, Latency Tolerance Reporting; not AER.
+const LIVE: u32 = 0x37;
 
 // The current value of every register, and the masks of the type 2 record, which asks for other payload sizes.
 const CURRENT: u32 = 0x2810;
@@ -85,11 +91,21 @@ fn place(bus: u32, device: u32, function: u32, offset: u32) {
     hex(b" offset ", offset as u64, 3);
 }
 
+// The edition of a row's control field.
+fn edition(number: u8) {
+    if number == EDITION_3_3 {
+        text(b", edition 3.3");
+    } else {
+        text(b", edition 3.0");
+    }
+}
+
 fn row(words: &[u8], row: BridgeRow) {
     text(words);
     decimal(b": owner ", row.owner.0 as u64);
     decimal(b", buses ", row.first_bus as u64);
     decimal(b" to ", row.last_bus as u64);
+    edition(row.edition);
     bits(b", permits ", row.permitted, 2);
     end();
 }
@@ -97,8 +113,8 @@ fn row(words: &[u8], row: BridgeRow) {
 fn begin() -> Table
     ensures { λ r. ⌜ Sound r ⌝ }
 {
-    let simulated = fixtures::row(1, 0, 15, ALL);
-    let live = fixtures::row(2, 16, 31, 0x17);
+    let simulated = fixtures::row(1, 0, 15, KNOWN_CONTROL_3_0);
+    let live = fixtures::any_row(2, 0, 16, 31, EXPRESS, EDITION_3_3, LIVE);
     text(b"Two sessions share one service: the class is session 1, the plant is session 2.\n");
     row(b"Bridge 0 carries simulated cards", simulated);
     row(b"Bridge 1 carries the cards of a live pond", live);
@@ -126,6 +142,7 @@ fn osc(
     s: SessionNumber,
     n: BridgeNumber,
     query: bool,
+    support: u32,
     control: u32,
 ) -> Granted
     requires { ⌜ Sound t ⌝ }
@@ -139,7 +156,7 @@ fn osc(
     } else {
         bits(b", take ", control, 2);
     }
-    let caps = fixtures::request(status, ALL, control);
+    let caps = fixtures::request(status, support, control);
     let mut answer = [0; 12];
     let done = fixtures::osc(t, s, n, 1, 3, &fixtures::UUID, &caps, &mut answer);
     came(done.number);
@@ -296,7 +313,7 @@ fn values(words: &[u8], t: Table, s: SessionNumber, n: BridgeNumber, and: u32)
     end();
 }
 
-// A query, a query for what it granted, and a taking call for that: the sentences are those of the session.
+// A query, a query for what it granted, and a taking call for that, with the same support DWORD: the sentences are those of the session.
 fn negotiate(
     ask: &[u8],
     again: &[u8],
@@ -304,13 +321,15 @@ fn negotiate(
     t: Table,
     s: SessionNumber,
     n: BridgeNumber,
+    support: u32,
+    control: u32,
 ) -> Table
     requires { ⌜ Sound t ⌝ }
     ensures { λ r. ⌜ Sound r ⌝ }
 {
-    let first = osc(ask, t, s, n, true, ALL);
-    let second = osc(again, first.table, s, n, true, first.control);
-    let taken = osc(take, second.table, s, n, false, second.control);
+    let first = osc(ask, t, s, n, true, support, control);
+    let second = osc(again, first.table, s, n, true, support, first.control);
+    let taken = osc(take, second.table, s, n, false, support, second.control);
     taken.table
 }
 
@@ -325,6 +344,8 @@ fn both_negotiate(t: Table) -> Table
         t,
         SessionNumber(1),
         BridgeNumber(0),
+        KNOWN_SUPPORT_3_0,
+        KNOWN_CONTROL_3_0,
     );
     negotiate(
         b"The plant asks what it may control.",
@@ -333,6 +354,8 @@ fn both_negotiate(t: Table) -> Table
         simulated,
         SessionNumber(2),
         BridgeNumber(1),
+        KNOWN_SUPPORT_3_3,
+        KNOWN_CONTROL_3_3,
     )
 }
 
@@ -349,7 +372,8 @@ fn class_is_refused(t: Table) -> Table
         class,
         live,
         false,
-        ALL,
+        KNOWN_SUPPORT_3_0,
+        KNOWN_CONTROL_3_0,
     );
     let t = reset(
         b"The class tries to reset the live bridge.",

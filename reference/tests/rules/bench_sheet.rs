@@ -9,7 +9,8 @@ fn granting(permitted: u32, held_before: u32, requested: u32, expect: (u32, u32,
     let [status, support, control] = osc(&mut table, 0, 0x1F, requested);
     assert_eq!((control, status, held(&table)), expect);
     assert_eq!(support, 0x1F);
-    assert_eq!(granted(permitted, held_before, requested), expect.0);
+    let by_rule = granted(OLD, permitted, held_before, 0, 0x1F, requested);
+    assert_eq!(by_rule, expect.0);
 }
 
 #[test]

@@ -15,6 +15,9 @@ pub const BASE: u64 = 0xE000_0000;
 /// The kinds of a row.
 pub const EXPRESS: u8 = 0;
 pub const CONVENTIONAL: u8 = 1;
+/// The editions of a row.
+pub const OLD: u8 = 0;
+pub const EDITION_3_3: u8 = 1;
 /// The UUID as it stands in the buffer.
 pub const UUID: [u8; 16] = [
     0x5B, 0x4D, 0xDB, 0x33, 0xF7, 0x1F, 0x1C, 0x40, 0x96, 0x57, 0x74, 0x41, 0xC0, 0x3D, 0xD7, 0x66,
@@ -49,7 +52,7 @@ pub fn with_checksum(mut table: Vec<u8>) -> Vec<u8> {
     table
 }
 
-/// An Express row of the owner in segment 0.
+/// An Express row of the owner in segment 0, of the old edition.
 pub fn row(first_bus: u8, last_bus: u8, permitted: u32) -> BridgeRow {
     BridgeRow {
         owner: OWNER,
@@ -58,6 +61,15 @@ pub fn row(first_bus: u8, last_bus: u8, permitted: u32) -> BridgeRow {
         last_bus,
         kind: EXPRESS,
         permitted,
+        edition: OLD,
+    }
+}
+
+/// The same of edition 3.3.
+pub fn row_3_3(first_bus: u8, last_bus: u8, permitted: u32) -> BridgeRow {
+    BridgeRow {
+        edition: EDITION_3_3,
+        ..row(first_bus, last_bus, permitted)
     }
 }
 
@@ -66,12 +78,17 @@ pub fn start(entries: &[Entry], rows: &[BridgeRow]) -> Result<Table, Refusal> {
     Table::start(&mcfg(entries), rows)
 }
 
-/// A table with one Express bridge on buses 0 to 255.
+/// A table with one Express bridge on buses 0 to 255, of the old edition.
 pub fn one_bridge(permitted: u32) -> Table {
     start(&[(BASE, 0, 0, 255)], &[row(0, 255, permitted)]).unwrap()
 }
 
-/// The same, where the bridge holds these bits.
+/// The same of edition 3.3.
+pub fn one_bridge_3_3(permitted: u32) -> Table {
+    start(&[(BASE, 0, 0, 255)], &[row_3_3(0, 255, permitted)]).unwrap()
+}
+
+/// A table with one Express bridge of the old edition that holds these bits.
 pub fn holding(permitted: u32, held: u32) -> Table {
     let mut table = one_bridge(permitted);
     let [_, _, granted] = osc(&mut table, 0, 0, held);
@@ -98,9 +115,23 @@ pub fn numbers(bytes: &[u8]) -> Vec<u32> {
 
 /// A call of the owner on the first bridge, with right framing, UUID, revision and Count 3.
 pub fn osc(table: &mut Table, status: u32, support: u32, control: u32) -> [u32; 3] {
+    osc_on(table, BRIDGE, status, support, control)
+}
+
+/// The same on any bridge.
+pub fn osc_on(
+    table: &mut Table,
+    bridge: BridgeNumber,
+    status: u32,
+    support: u32,
+    control: u32,
+) -> [u32; 3] {
     let capabilities = dwords(&[status, support, control]);
-    let answer = osc_call(table, 1, &UUID, &capabilities);
-    answer.try_into().unwrap()
+    let mut answer = [UNTOUCHED; 12];
+    table
+        .osc(OWNER, bridge, 1, 3, &UUID, &capabilities, &mut answer)
+        .unwrap();
+    numbers(&answer).try_into().unwrap()
 }
 
 /// A framed call of the owner on the first bridge.

@@ -72,7 +72,7 @@ fn every_byte_of_the_uuid_counts() {
     }
 }
 
-/// The granting rule bit by bit, as document 01 words it with what document 02, b, says of bit 4.
+/// The granting rule of the old edition bit by bit, as document 01 words it with what document 02, b, says of bit 4.
 fn worded(permitted: u32, held: u32, requested: u32) -> u32 {
     let has = |bits: u32, bit: u32| bits & (1 << bit) != 0;
     let granted = (0..5).filter(|&bit| {
@@ -87,8 +87,15 @@ fn worded(permitted: u32, held: u32, requested: u32) -> u32 {
 fn granting_rule() {
     for bits in 0..1 << 15 {
         let [p, h, r] = [bits & 31, bits >> 5 & 31, bits >> 10];
-        assert_eq!(granted(p, h, r), worded(p, h, r));
-        assert_eq!(granted(p, h, r | !31), worded(p, h, r));
+        for support in [0, !0] {
+            let by_rule = |requested| granted(OLD, p, h, support, support, requested);
+            assert_eq!(by_rule(r), worded(p, h, r));
+            assert_eq!(by_rule(r | !31), worded(p, h, r));
+        }
+        // A number that is no edition.
+        for edition in [2, 255] {
+            assert_eq!(granted(edition, p, h, 0, !0, r), worded(p, h, r));
+        }
     }
 }
 

@@ -38,7 +38,19 @@ fn start_6_then_7() {
         kind: 2,
         ..row(0, 1, 0)
     };
-    for bad_row in [bad_buses, bad_kind] {
+    let bad_edition = |edition| BridgeRow {
+        edition,
+        ..row(0, 1, 0)
+    };
+    let bad_bits = [row(0, 1, 0x20), row_3_3(0, 1, 0x400)];
+    for bad_row in [
+        bad_buses,
+        bad_kind,
+        bad_edition(2),
+        bad_edition(255),
+        bad_bits[0],
+        bad_bits[1],
+    ] {
         let refused = Table::start(&bad_mcfg, &[bad_row]);
         assert_eq!(refused.err(), Some(Refusal::Mcfg));
         assert_eq!(start(&[entry], &[bad_row]).err(), Some(Refusal::Rows));

@@ -180,17 +180,59 @@ fn rows_share_no_bus() {
 
 #[test]
 fn permitted_bits() {
-    for bit in 0..32 {
-        let express = BridgeRow {
-            permitted: 1 << bit,
+    for (edition, highest) in [(OLD, 4), (EDITION_3_3, 9)] {
+        for bit in 0..32 {
+            let express = BridgeRow {
+                permitted: 1 << bit,
+                edition,
+                ..row_7(0x10, 0x10)
+            };
+            let conventional = BridgeRow {
+                kind: CONVENTIONAL,
+                ..express
+            };
+            assert_eq!(rows(&[express]).is_ok(), bit <= highest);
+            assert_eq!(rows(&[conventional]).is_ok(), bit == 1);
+        }
+    }
+}
+
+#[test]
+fn editions() {
+    let started = |edition, kind, permitted| {
+        let row = BridgeRow {
+            kind,
+            permitted,
+            edition,
             ..row_7(0x10, 0x10)
         };
-        let conventional = BridgeRow {
-            kind: CONVENTIONAL,
-            ..express
-        };
-        assert_eq!(rows(&[express]).is_ok(), bit <= 4);
-        assert_eq!(rows(&[conventional]).is_ok(), bit == 1);
+        rows(&[row])
+    };
+    for (edition, kind, permitted) in [
+        (OLD, EXPRESS, 0x1F),
+        (OLD, CONVENTIONAL, 0x02),
+        (EDITION_3_3, EXPRESS, 0x3FF),
+        (EDITION_3_3, CONVENTIONAL, 0x02),
+        (EDITION_3_3, CONVENTIONAL, 0),
+    ] {
+        assert_eq!(started(edition, kind, permitted), Ok(()));
+    }
+    for (edition, kind, permitted) in [
+        (OLD, EXPRESS, 0x20),
+        (OLD, EXPRESS, 0x3FF),
+        (EDITION_3_3, EXPRESS, 0x400),
+        (EDITION_3_3, EXPRESS, 0x8000_03FF),
+        (EDITION_3_3, CONVENTIONAL, 0x12),
+        (EDITION_3_3, CONVENTIONAL, 0x3FF),
+        (EDITION_3_3, CONVENTIONAL, 0x40),
+        (EDITION_3_3, 2, 0x02),
+    ] {
+        assert_eq!(started(edition, kind, permitted), Err(Refusal::Rows));
+    }
+    for edition in 2..=255 {
+        assert_eq!(started(edition, EXPRESS, 0), Err(Refusal::Rows));
+        assert_eq!(started(edition, EXPRESS, 0x1F), Err(Refusal::Rows));
+        assert_eq!(started(edition, CONVENTIONAL, 0x02), Err(Refusal::Rows));
     }
 }
 
@@ -211,7 +253,8 @@ fn kinds() {
 
 #[test]
 fn starts_with_nothing_held() {
-    let table = one_bridge(0x1F);
-    let holding = table.report(OWNER, BRIDGE).unwrap();
-    assert_eq!((holding.held, holding.supported), (0, 0));
+    for table in [one_bridge(0x1F), one_bridge_3_3(0x3FF)] {
+        let holding = table.report(OWNER, BRIDGE).unwrap();
+        assert_eq!((holding.held, holding.supported), (0, 0));
+    }
 }

@@ -6,7 +6,7 @@ pub mod masks;
 mod places;
 pub mod registers;
 pub mod roms;
-mod starts;
+pub mod starts;
 pub mod sums;
 pub mod writer;
 
@@ -21,7 +21,7 @@ use crate::settings::Settings;
 /// The name of each comparison, and the comparison: the count of its calls, or a difference in words.
 type Comparison = (&'static str, fn(fn() -> Pair) -> Result<u64, String>);
 
-const COMPARISONS: [Comparison; 29] = [
+const COMPARISONS: [Comparison; 30] = [
     (
         "every offset with every width, and numbers beyond",
         places::offsets_and_widths,
@@ -57,6 +57,10 @@ const COMPARISONS: [Comparison; 29] = [
     (
         "every number of a row changed to every value of a byte and to every bit",
         starts::changed_rows,
+    ),
+    (
+        "every edition of a byte, Express and conventional, with every permitted bit by itself, none and all",
+        starts::editions,
     ),
     (
         "every byte of a record block changed to every value",
@@ -162,15 +166,17 @@ impl Bench {
     }
 
     /// Makes the call on both, unless one of them does not take it; a difference is an error, in words. A start becomes the first call
-    /// of those after it.
+    /// of those after it; an _OSC call stands behind it.
     fn check(&mut self, call: impl Into<Call>) -> Result<Option<Given>, String> {
         let call = call.into();
         if !self.pair.takes(&call) {
             return Ok(None);
         }
         let (_, given) = self.made(&call)?;
-        if matches!(call, Call::Start(_)) {
-            self.first = vec![call];
+        match call {
+            Call::Start(_) => self.first = vec![call],
+            Call::Osc(_) => self.first.push(call),
+            _ => {}
         }
         Ok(Some(given))
     }

@@ -1,12 +1,13 @@
-//! Starts from an MCFG table with one byte changed, or a row with one number changed; of every number of rows and entries, and every length
-//! of the table; with two of them that share something.
+//! Starts from an MCFG table with one byte changed, or a row with one number changed; from a row of every edition with every permitted bit;
+//! of every number of rows and entries, and every length of the table; with two of them that share something.
 
 use super::Bench;
-use crate::call::{Address, Start};
+use crate::call::{Address, Report, Start};
+use crate::editions::{EDITION_3_3, OLD_EDITION, known_control};
 use crate::mcfg::{self, CHECKSUM, Entry, MOST_ENTRIES};
 use crate::random::Random;
-use crate::requests::{self, QUERY};
-use crate::row::{CONVENTIONAL, NUMBERS, Row};
+use crate::requests;
+use crate::row::{CONVENTIONAL, EXPRESS, NUMBERS, Row};
 use crate::rows::MOST_ROWS;
 use crate::service::Pair;
 
@@ -38,12 +39,19 @@ const ENTRIES: [Entry; 4] = [
     },
 ];
 
-const ROWS: [Row; 4] = [
+/// Rows of both editions in turn.
+const ROWS: [Row; 6] = [
     Row::express(0, 0, 0, 63),
+    Row::express_3_3(1, 0, 64, 64),
     Row {
         kind: CONVENTIONAL,
         permitted: 2,
-        ..Row::express(1, 0, 65, 126)
+        ..Row::express(1, 0, 66, 126)
+    },
+    Row {
+        kind: CONVENTIONAL,
+        permitted: 2,
+        ..Row::express_3_3(0, 0x0102, 0, 0)
     },
     Row {
         permitted: 0x0F,
@@ -51,7 +59,7 @@ const ROWS: [Row; 4] = [
     },
     Row {
         permitted: 0,
-        ..Row::express(2, 0x0102, 127, 127)
+        ..Row::express_3_3(2, 0x0102, 127, 127)
     },
 ];
 
@@ -90,6 +98,34 @@ pub fn changed_rows(make: fn() -> Pair) -> Result<u64, String> {
     Ok(bench.count)
 }
 
+/// One row of every edition of a byte, Express and conventional, that permits no bit, any one bit, or all that an edition knows.
+pub fn editions(make: fn() -> Pair) -> Result<u64, String> {
+    let mcfg = mcfg::table(&mut Random::new(0), &many_entries(1));
+    let mut bench = Bench::new(make, Vec::new())?;
+    let all = [OLD_EDITION, EDITION_3_3].map(known_control);
+    let permitted = || (0..32).map(|bit| 1 << bit).chain([0]).chain(all);
+    for edition in 0..=u8::MAX {
+        for kind in [EXPRESS, CONVENTIONAL] {
+            for permitted in permitted() {
+                let row = Row {
+                    permitted,
+                    kind,
+                    edition,
+                    ..Row::express(1, 0, 0, 255)
+                };
+                let permissible = match kind {
+                    EXPRESS => known_control(edition),
+                    _ => 2,
+                };
+                let sound = edition <= EDITION_3_3 && permitted & !permissible == 0;
+                let number = if sound { 0 } else { 7 };
+                expect_start(&mut bench, &mcfg, &[row], number)?;
+            }
+        }
+    }
+    Ok(bench.count)
+}
+
 /// So many entries: entry `k` has segment `k`, buses 0 to 255 and a window of its own, each touching the next.
 fn many_entries(count: usize) -> Vec<Entry> {
     let entry = |k| Entry {
@@ -101,9 +137,12 @@ fn many_entries(count: usize) -> Vec<Entry> {
     (0..count as u16).map(entry).collect()
 }
 
-/// So many rows of segment 0: row `k` has bus `k` alone, and the 64 owners take turns.
+/// So many rows of segment 0: row `k` has bus `k` alone; the 64 owners take turns, and the two editions.
 fn many_rows(count: usize) -> Vec<Row> {
-    let row = |k| Row::express(k % 64, 0, k, k);
+    let row = |k| match k % 2 {
+        0 => Row::express(k % 64, 0, k, k),
+        _ => Row::express_3_3(k % 64, 0, k, k),
+    };
     (0..count as u8).map(row).collect()
 }
 
@@ -167,18 +206,37 @@ pub fn pairs(make: fn() -> Pair) -> Result<u64, String> {
     Ok(bench.count)
 }
 
-/// Where both start, an address and a query of each bridge are compared, which show the base that it took and the bits that it permits.
-fn start(bench: &mut Bench, mcfg: &[u8], rows: &[Row]) -> Result<(), String> {
-    let start = Start {
+fn from(mcfg: &[u8], rows: &[Row]) -> Start {
+    Start {
         mcfg: mcfg.to_vec().into(),
         rows: rows.to_vec().into(),
-    };
-    if bench.check(start)?.is_none_or(|given| given.number != 0) {
-        return Ok(());
     }
+}
+
+/// Where both start, the bridges are compared.
+fn start(bench: &mut Bench, mcfg: &[u8], rows: &[Row]) -> Result<(), String> {
+    match bench.check(from(mcfg, rows))? {
+        Some(given) if given.number == 0 => bridges(bench, rows),
+        _ => Ok(()),
+    }
+}
+
+/// The same, where both must give this number.
+fn expect_start(bench: &mut Bench, mcfg: &[u8], rows: &[Row], number: u8) -> Result<(), String> {
+    bench.expect(from(mcfg, rows), number)?;
+    match number {
+        0 => bridges(bench, rows),
+        _ => Ok(()),
+    }
+}
+
+/// An address, a taking call for every bit and a report of each bridge are compared, which show the base that it took, the bits that it
+/// permits and its edition.
+fn bridges(bench: &mut Bench, rows: &[Row]) -> Result<(), String> {
     for (bridge, row) in (0..).zip(rows) {
+        let session = row.owner;
         bench.check(Address {
-            session: row.owner,
+            session,
             bridge,
             bus: row.last.into(),
             device: 0,
@@ -186,7 +244,8 @@ fn start(bench: &mut Bench, mcfg: &[u8], rows: &[Row]) -> Result<(), String> {
             offset: 0,
             width: 4,
         })?;
-        bench.check(requests::right_call(row.owner, bridge, QUERY, 0, 0x1F))?;
+        bench.check(requests::right_call(session, bridge, 0, u32::MAX, u32::MAX))?;
+        bench.check(Report { session, bridge })?;
     }
     Ok(())
 }

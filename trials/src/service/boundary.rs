@@ -33,7 +33,7 @@ impl Boundary {
         }
     }
 
-    /// The table itself, for those who set a bridge's permitted and held bits.
+    /// The table itself, for those who set what a bridge permits and holds.
     pub fn table(&mut self) -> &mut sys::Table {
         &mut self.table
     }
@@ -87,6 +87,7 @@ const _: () = {
     assert!(offset_of!(Row, first) == offset_of!(sys::BridgeRow, first_bus));
     assert!(offset_of!(Row, last) == offset_of!(sys::BridgeRow, last_bus));
     assert!(offset_of!(Row, kind) == offset_of!(sys::BridgeRow, kind));
+    assert!(offset_of!(Row, edition) == offset_of!(sys::BridgeRow, edition));
 };
 
 fn start(call: &Start) -> sys::Started {

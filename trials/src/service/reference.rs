@@ -46,6 +46,7 @@ fn bridge_row(row: &Row) -> BridgeRow {
         last_bus: row.last,
         kind: row.kind,
         permitted: row.permitted,
+        edition: row.edition,
     }
 }
 

@@ -1,6 +1,7 @@
-//! The safe crate over the proved library. Its types have no room for a kind but the two, and less for a place than the C boundary's.
+//! The safe crate over the proved library. Its types have no room for a kind or an edition but the two, and less for a place than the C
+//! boundary's.
 
-use slipwattle::{BridgeKind, BridgeRow, Place};
+use slipwattle::{BridgeKind, BridgeRow, Edition, Place};
 
 use super::Service;
 use super::program::{image_position, program, record_position};
@@ -9,6 +10,7 @@ use crate::call::{
     Address, Call, FindImage, FindRecord, Locate, Osc, RegisterValues, Report, Reset, Start,
     WriteRecords,
 };
+use crate::editions::{EDITION_3_3, OLD_EDITION};
 use crate::given::{Given, Handed};
 use crate::mcfg;
 use crate::random::Random;
@@ -65,6 +67,11 @@ fn bridge_row(row: &Row) -> Option<BridgeRow> {
         kind: match row.kind {
             EXPRESS => BridgeKind::Express,
             CONVENTIONAL => BridgeKind::Conventional,
+            _ => return None,
+        },
+        edition: match row.edition {
+            OLD_EDITION => Edition::V3_0,
+            EDITION_3_3 => Edition::V3_3,
             _ => return None,
         },
     })

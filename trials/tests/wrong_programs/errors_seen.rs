@@ -3,43 +3,33 @@
 use reference::Masks;
 use trials::blocks::{self, DEVICE_CONTROL, PAYLOAD_SIZES};
 use trials::call::{Call, FindRecord, Report};
+use trials::editions::{Asked, Outcome};
 use trials::exhaustive::registers;
 use trials::given::{Given, Handed};
 use trials::mcfg;
-use trials::requests::{PRINTED_UUID, UUID};
+use trials::requests::{PRINTED_UUID, UUID, dword};
 use trials::service::Service;
 
+use crate::regranted::regranted;
 use crate::sizes::kept;
-use crate::wrong::{Wrong, dword, found, found_exhaustively, judged, pair, short_names};
+use crate::wrong::{Wrong, found, found_exhaustively, judged, pair, short_names};
 
 const AER: u32 = 1 << 3;
 
-fn drops_held_bits(wrong: &mut Wrong, call: &mut Call) -> Given {
-    let mut given = wrong.reference.call(call);
-    match call {
-        Call::Start(_) => wrong.granted.clear(),
-        Call::Reset(reset) if given.number == 0 => {
-            wrong.granted.remove(&reset.bridge);
-        }
-        Call::Osc(osc)
-            if judged(given, osc.answer.lent()) && osc.capabilities.lent()[0] & 1 == 0 =>
-        {
-            let granted = dword(osc.answer.lent(), 2);
-            wrong.granted.insert(osc.bridge, granted);
-        }
-        Call::Report(report) if given.number == 0 => {
-            if let Handed::Holding { held, .. } = &mut given.handed {
-                *held = wrong.granted.get(&report.bridge).copied().unwrap_or(0);
-            }
-        }
-        _ => {}
+fn drops_held_bits(asked: &Asked) -> Outcome {
+    let outcome = asked.outcome();
+    match asked.query {
+        true => outcome,
+        false => Outcome {
+            held: outcome.granted,
+            ..outcome
+        },
     }
-    given
 }
 
 #[test]
 fn a_held_bit_dropped_because_a_later_call_left_it_out() {
-    let found = found(|| pair(drops_held_bits));
+    let found = found(|| pair(|wrong, call| regranted(wrong, call, drops_held_bits)));
     assert_eq!(short_names(&found), ["start", "osc", "osc"]);
 }
 

@@ -1,11 +1,12 @@
-//! Wrong granting rules: what new bits 0, 2 and 3 need of bit 4, by document 02, b.
+//! Wrong granting rules of the old edition: what new bits 0, 2 and 3 need of bit 4, by document 02, b.
 
-use trials::call::{Call, Osc, Report};
+use trials::editions::{Asked, EDITION_3_3, OLD_EDITION, Outcome, known_support};
 use trials::exhaustive::granting;
-use trials::given::{Given, Handed};
-use trials::service::{Pair, Service};
+use trials::requests::dword;
+use trials::service::Pair;
 
-use crate::wrong::{Wrong, dword, found, instead, judged, last_osc, pair};
+use crate::regranted::regranted;
+use crate::wrong::{found, last_osc, pair};
 
 const BIT_4: u32 = 0x10;
 const DEPENDENT: u32 = 0x0D;
@@ -19,9 +20,17 @@ fn granted(permitted: u32, held: u32, requested: u32, deciding: u32) -> u32 {
     requested & 0x1F & (held | grantable)
 }
 
+/// Compares a rule of the permitted, held and requested bits on every set.
+fn compared(rule: fn(u32, u32, u32) -> u32) -> Result<u64, String> {
+    granting::old_sets(&|asked| {
+        let granted = rule(asked.permitted, asked.held, asked.requested);
+        asked.outcome_with(granted, known_support(OLD_EDITION))
+    })
+}
+
 #[test]
 fn the_granting_rule_holds_of_every_set() {
-    granting::every_set(|p, h, r| granted(p, h, r, r & (p | h))).unwrap();
+    compared(|p, h, r| granted(p, h, r, r & (p | h))).unwrap();
 }
 
 #[test]
@@ -31,11 +40,11 @@ fn wrong_granting_rules_are_found_among_every_set() {
     let requested_is_enough = |p, h, r| granted(p, h, r, r);
     let only_permitted_counts = |p, h, r| granted(p, h, r, r & p);
     let held_bits_need_it = |p, h, r| granted(p | h, 0, r, r & (p | h));
-    assert!(granting::every_set(nothing_needed).is_err());
-    assert!(granting::every_set(held_is_enough).is_err());
-    assert!(granting::every_set(requested_is_enough).is_err());
-    assert!(granting::every_set(only_permitted_counts).is_err());
-    assert!(granting::every_set(held_bits_need_it).is_err());
+    assert!(compared(nothing_needed).is_err());
+    assert!(compared(held_is_enough).is_err());
+    assert!(compared(requested_is_enough).is_err());
+    assert!(compared(only_permitted_counts).is_err());
+    assert!(compared(held_bits_need_it).is_err());
 }
 
 /// Two _OSC calls show the wrong rule, of which the second asks for bit 0, 2 or 3 and not for bit 4.
@@ -46,60 +55,39 @@ fn found_without_bit_4(make: fn() -> Pair) {
     assert_eq!((control & DEPENDENT).count_ones(), 1);
 }
 
-/// Writes another granted set, with its status, into the answer to a right call.
-fn regrant(given: Given, osc: &mut Osc, granted: fn(requested: u32, granted: u32) -> u32) {
-    if judged(given, osc.answer.lent()) {
-        let requested = dword(osc.capabilities.lent(), 2);
-        let granted = granted(requested, dword(osc.answer.lent(), 2));
-        let answer = osc.answer.lent_mut();
-        answer[0] = if granted == requested { 0x00 } else { 0x10 };
-        answer[8..].copy_from_slice(&granted.to_le_bytes());
+/// Another granted set on rows of the old edition.
+fn regranted_old(asked: &Asked, granted: u32) -> Outcome {
+    match asked.edition {
+        EDITION_3_3 => asked.outcome(),
+        _ => asked.outcome_with(granted, known_support(OLD_EDITION)),
     }
 }
 
-fn refuses_held_bits_without_bit_4(wrong: &mut Wrong, call: &mut Call) -> Given {
-    let given = wrong.reference.call(call);
-    if let Call::Osc(osc) = call {
-        regrant(given, osc, |requested, granted| match requested & BIT_4 {
-            0 => granted & !DEPENDENT,
-            _ => granted,
-        });
-    }
-    given
+fn refuses_held_bits_without_bit_4(asked: &Asked) -> Outcome {
+    let granted = match asked.requested & BIT_4 {
+        0 => asked.granted() & !DEPENDENT,
+        _ => asked.granted(),
+    };
+    regranted_old(asked, granted)
 }
 
 #[test]
 fn a_held_bit_refused_because_bit_4_was_left_out() {
-    found_without_bit_4(|| pair(refuses_held_bits_without_bit_4));
-}
-
-fn asks_for_bit_4(call: &mut Call) {
-    if let Call::Osc(osc) = call
-        && let Some(control) = osc.capabilities.lent_mut().get_mut(8)
-    {
-        *control |= BIT_4 as u8;
-    }
-}
-
-fn holds_bit_4(wrong: &mut Wrong, osc: &Osc) -> bool {
-    let (session, bridge) = (osc.session, osc.bridge);
-    let report = wrong.reference.call(&mut Report { session, bridge }.into());
-    matches!(report.handed, Handed::Holding { held, .. } if held & BIT_4 != 0)
+    found_without_bit_4(|| {
+        pair(|wrong, call| regranted(wrong, call, refuses_held_bits_without_bit_4))
+    });
 }
 
 /// Asks for bit 4 too where it is held, and leaves it out of the answer.
-fn counts_a_held_bit_4(wrong: &mut Wrong, call: &mut Call) -> Given {
-    let given = match call {
-        Call::Osc(osc) if holds_bit_4(wrong, osc) => instead(wrong, call, asks_for_bit_4),
-        _ => wrong.reference.call(call),
+fn counts_a_held_bit_4(asked: &Asked) -> Outcome {
+    let with_bit_4 = Asked {
+        requested: asked.requested | (asked.held & BIT_4),
+        ..*asked
     };
-    if let Call::Osc(osc) = call {
-        regrant(given, osc, |requested, granted| requested & granted);
-    }
-    given
+    regranted_old(asked, with_bit_4.granted() & asked.requested)
 }
 
 #[test]
 fn a_new_bit_granted_on_a_bit_4_held_from_earlier() {
-    found_without_bit_4(|| pair(counts_a_held_bit_4));
+    found_without_bit_4(|| pair(|wrong, call| regranted(wrong, call, counts_a_held_bit_4)));
 }

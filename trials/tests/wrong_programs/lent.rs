@@ -71,7 +71,7 @@ fn an_unused_byte_written_in_a_row() {
     let [Call::Start(start)] = &found.list[..] else {
         panic!("{}", found.report());
     };
-    assert_eq!(start.rows.lent()[0].numbers(), [0, 0, 0, 0, 0, 0, 1]);
+    assert_eq!(start.rows.lent()[0].numbers(), [0, 0, 0, 0, 0, 0, 0, 1]);
 }
 
 fn changes_a_rom(wrong: &mut Wrong, call: &mut Call) -> Given {

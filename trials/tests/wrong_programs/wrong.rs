@@ -6,7 +6,7 @@ use trials::buffer::Bytes;
 use trials::call::{Call, Osc, Start};
 use trials::counts::Counts;
 use trials::exhaustive;
-use trials::given::Given;
+use trials::given::{Given, Handed};
 use trials::random_trials::{self, Found, Setting};
 use trials::service::{Pair, Reference, Service};
 use trials::settings::Settings;
@@ -16,8 +16,8 @@ pub type Rule = fn(&mut Wrong, &mut Call) -> Given;
 pub struct Wrong {
     pub reference: Reference,
     pub start: Option<Start>,
-    /// The bits that the last taking call on each bridge granted.
-    pub granted: HashMap<u8, u32>,
+    /// What each bridge holds where the rule says so.
+    pub holdings: HashMap<u8, Handed>,
     rule: Rule,
 }
 
@@ -42,7 +42,7 @@ pub fn pair(rule: Rule) -> Pair {
     let left = Wrong {
         reference: Reference::new(),
         start: None,
-        granted: HashMap::new(),
+        holdings: HashMap::new(),
         rule,
     };
     Pair {
@@ -97,12 +97,6 @@ pub fn last_osc(found: &Found, names: &[&str]) -> Osc {
         Some(Call::Osc(osc)) => osc.clone(),
         _ => panic!("{}", found.report()),
     }
-}
-
-/// A little-endian DWORD.
-pub fn dword(bytes: &[u8], index: usize) -> u32 {
-    let (words, _) = bytes.as_chunks::<4>();
-    u32::from_le_bytes(words[index])
 }
 
 /// Whether an _OSC call was a right one, by its answer.

@@ -7,22 +7,24 @@ use Rattle.osc.proofs.grant.Tie as tie
 
 returns : tie.Need-returns
 returns c =
-    let a = c .before .before .before .before .before .before .before .before .args in
+    let a = c .before .before .before .before .before .before .before .before .before .args in
     let q = c .before .before .before .before .before .is-query in
     (c .before .before .answer-granted .ensures .1, query-adds (a .b) (now (a .caps)) (q .result) (q .ensures) (c .before .before .before .before .if1 .taken))
 
 returns-2 : tie.Need-returns-2
 returns-2 c =
-    let a = c .before .before .before .before .before .before .before .before .before .before .before .args in
+    let a = c .before .before .before .before .before .before .before .before .before .before .before .before .args in
+    let s = c .before .before .before .before .before .before .before .before .before .read32 in
     let q = c .before .before .before .before .before .before .before .before .is-query in
     let g = c .before .before .before .before .before .answer-granted2 in
-    let s = c .before .read32 in
-    (g .ensures .1, taking-adds (a .b) (now (a .caps)) (q .result) (q .ensures) (g .result) (s .result) (c .before .before .before .before .before .before .before .if1 .left) (g .ensures .0) (s .ensures))
+    let k = c .before .known-support in
+    (g .ensures .1, taking-adds (a .b) (now (a .caps)) (q .result) (q .ensures) (g .result) (s .result) (k .result) (c .before .before .before .before .before .before .before .if1 .left) (g .ensures .0) (s .ensures) (k .ensures))
 
 pub grant-spec : {M : Type 1} → statement M
 grant-spec =
     tie.close
     (tie.spec
+    (λ c κs. search needs)
     (λ c κs. search needs)
     (λ c κs. search needs)
     (λ c. search needs)

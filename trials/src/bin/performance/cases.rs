@@ -3,12 +3,13 @@
 use std::hint::black_box;
 
 use slipwattle::sys;
+use trials::editions::SUPPORT_7;
 use trials::mcfg::CHECKSUM;
 use trials::requests::UUID;
 
 use crate::inputs::{
     BRIDGE, Tables, bridge, example_block, falling_table, long_block, longest_block, mcfg_table,
-    rows, session, tables, their_rows, type_2,
+    rows, session, tables, tables_3_3, their_rows, type_2,
 };
 use crate::requests::{Request, our_osc, tables_that_hold, taking, their_osc};
 use crate::roms;
@@ -32,6 +33,7 @@ pub trait Runner {
 pub fn all(run: &mut impl Runner) {
     starts(run);
     oscs(run);
+    oscs_3_3(run);
     reset(run);
     report(run, "report", BRIDGE);
     report(run, "report, not the owner: refusal 2", BRIDGE + 1);
@@ -146,6 +148,29 @@ fn oscs(run: &mut impl Runner) {
     osc(run, "_OSC, unknown UUID: status 0x04", tables(), &unknown);
     osc(run, "_OSC, Count 8: status 0x02", tables(), &eight);
     osc(run, "_OSC, not the owner: refusal 2", tables(), &foreign);
+}
+
+/// On a row of edition 3.3.
+fn oscs_3_3(run: &mut impl Runner) {
+    let dwords = |status, support, control| Request {
+        dwords: vec![status, support, control],
+        ..taking(0)
+    };
+    let (all, support) = (0x3FF, 0x1FF);
+    let query = dwords(1, support, all);
+    osc(run, "_OSC on a 3.3 row, query", tables_3_3(), &query);
+    let taking_all = dwords(0, support, all);
+    osc(
+        run,
+        "_OSC on a 3.3 row, taking call",
+        tables_3_3(),
+        &taking_all,
+    );
+    let masked = "_OSC on a 3.3 row, taking call, no support bit 7";
+    let undeclared = dwords(0, support & !SUPPORT_7, all);
+    osc(run, masked, tables_3_3(), &undeclared);
+    let alone = "_OSC on a 3.3 row, taking call, bit 4 not asked for";
+    osc(run, alone, tables_3_3(), &dwords(0, support, all & !0x10));
 }
 
 fn osc(run: &mut impl Runner, name: &'static str, mut t: Tables, q: &Request) {

@@ -4,6 +4,7 @@ use std::iter;
 
 use slipwattle::sys;
 use trials::blocks::{MOST_BYTES, field, numbers_field};
+use trials::editions::{EDITION_3_3, OLD_EDITION, known_control};
 use trials::mcfg::{self, Entry};
 use trials::random::Random;
 
@@ -41,15 +42,16 @@ fn entries_of(numbers: impl Iterator<Item = u8>) -> Vec<Entry> {
     numbers.map(entry).collect()
 }
 
-/// Row `k` of owner `k`: 4 buses of segment `k` or, where all are in one, of segment 0.
+/// Row `k` of owner `k`, of the old edition: 4 buses of segment `k` or, where all are in one, of segment 0.
 pub fn rows(count: u8, one_segment: bool) -> Vec<sys::BridgeRow> {
     let row = |k: u8| sys::BridgeRow {
-        permitted: 0x1F,
+        permitted: known_control(OLD_EDITION),
         segment: if one_segment { 0 } else { k.into() },
         owner: session(k).0,
         first_bus: 4 * k,
         last_bus: 4 * k + 3,
         kind: 0,
+        edition: OLD_EDITION,
     };
     (0..count).map(row).collect()
 }
@@ -63,6 +65,7 @@ pub fn their_rows(rows: &[sys::BridgeRow]) -> Vec<reference::BridgeRow> {
         last_bus: row.last_bus,
         kind: row.kind,
         permitted: row.permitted,
+        edition: row.edition,
     };
     rows.iter().map(row).collect()
 }
@@ -89,11 +92,24 @@ pub struct Tables {
 
 /// Tables with a bridge for each of 64 rows.
 pub fn tables() -> Tables {
-    let (m, r) = (mcfg_table(64), rows(64, false));
+    tables_of(&rows(64, false))
+}
+
+/// The same of edition 3.3; every bit that it knows is permitted.
+pub fn tables_3_3() -> Tables {
+    let mut rows = rows(64, false);
+    for row in &mut rows {
+        (row.edition, row.permitted) = (EDITION_3_3, known_control(EDITION_3_3));
+    }
+    tables_of(&rows)
+}
+
+fn tables_of(r: &[sys::BridgeRow]) -> Tables {
+    let m = mcfg_table(64);
     // SAFETY: pointers and lengths of two slices.
     let started = unsafe { sys::slipwattle_start(m.as_ptr(), m.len(), r.as_ptr(), r.len()) };
     assert_eq!(started.number, 0);
-    let theirs = reference::Table::start(&m, &their_rows(&r)).expect("a sound start");
+    let theirs = reference::Table::start(&m, &their_rows(r)).expect("a sound start");
     Tables {
         ours: started.table,
         theirs,
