@@ -35,6 +35,27 @@ ghost use Rattle.rules.specs.Osc.{
 // The UUID as it stands in the buffer.
 const UUID: [u8; 16] = *b"\x5b\x4d\xdb\x33\xf7\x1f\x1c\x40\x96\x57\x74\x41\xc0\x3d\xd7\x66";
 
+// Control bits 3, 4 and 7, and support bit 7.
+const AER: u32 = 0x08;
+
+const EXPRESS_CAPABILITY: u32 = 0x10;
+
+const PORT_CONTAINMENT: u32 = 0x80;
+
+const ERROR_DISCONNECT_RECOVER: u32 = 0x80;
+
+// The control bits that need no other: 1 and 4; 4, 6 and 9 in edition 3.3. Those that need bit 4 alone: 0, 2 and 3. Those that need it at most: all but 3 and 7 in edition 3.3.
+const FREE_3_0: u32 = 0x12;
+
+const FREE_3_3: u32 = 0x250;
+
+const DEPENDENT_3_0: u32 = 0x0d;
+
+const CAPABLE_3_3: u32 = 0x377;
+
+// The control bits that need no support: all but 7.
+const UNSUPPORTED_3_3: u32 = 0x37f;
+
 // The flag in the status DWORD.
 const QUERY: u32 = 0x01;
 
@@ -96,28 +117,30 @@ fn met(set: u32, needs: u32, bits: u32) -> u32
     0
 }
 
-// Bits 1 and 4 need no control bit; 0, 2 and 3 need bit 4.
+// Bits 0, 2 and 3 need bit 4.
 fn needs_met_3_0(available: u32) -> u32
     ensures { λ r. ⌜ r ≡ needsMet controls30 available ⌝ }
 {
-    0x12 | met(available, 0x10, 0x0d)
+    FREE_3_0 | met(available, EXPRESS_CAPABILITY, DEPENDENT_3_0)
 }
 
-// Bits 4, 6 and 9 need no control bit; 0, 1, 2, 5 and 8 need bit 4; 3 needs 4 and 7; 7 needs 3 and 4.
+// Bits 0, 1, 2, 5 and 8 need bit 4; 3 needs 4 and 7; 7 needs 3 and 4.
 fn needs_met_3_3(available: u32) -> u32
     ensures { λ r. ⌜ r ≡ needsMet controls33 available ⌝ }
 {
-    if available & 0x10 == 0x10 {
-        return 0x377 | met(available, 0x80, 0x08) | met(available, 0x08, 0x80);
+    if available & EXPRESS_CAPABILITY == EXPRESS_CAPABILITY {
+        return CAPABLE_3_3
+            | met(available, PORT_CONTAINMENT, AER)
+            | met(available, AER, PORT_CONTAINMENT);
     }
-    0x250
+    FREE_3_3
 }
 
 // Bit 7 needs support bit 7.
 fn supports_met_3_3(declared: u32) -> u32
     ensures { λ r. ⌜ r ≡ supportsMet controls33 declared ⌝ }
 {
-    0x37f | met(declared, 0x80, 0x80)
+    UNSUPPORTED_3_3 | met(declared, ERROR_DISCONNECT_RECOVER, PORT_CONTAINMENT)
 }
 
 // The granted bits by the masks of each edition. What the bits that a bit needs need in turn is needed by it too, or is itself, so one look at the available bits is enough.
