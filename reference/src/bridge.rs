@@ -1,7 +1,7 @@
 //! One bridge of the table, and the numbers of bridges and sessions.
 
 use crate::buses::BusRange;
-use crate::edition::{Edition, SupportNeeds};
+use crate::edition::Edition;
 
 /// The number of a session.
 #[derive(Clone, Copy, Debug, PartialEq, Eq)]
@@ -21,8 +21,6 @@ pub(crate) struct Bridge {
     pub(crate) permitted: u16,
     pub(crate) held: u16,
     pub(crate) supported: u16,
-    /// By its edition and by its row.
-    pub(crate) support_needs: SupportNeeds,
 }
 
 impl Bridge {
@@ -35,6 +33,5 @@ impl Bridge {
         permitted: 0,
         held: 0,
         supported: 0,
-        support_needs: [0; 10],
     };
 }

@@ -1,6 +1,4 @@
-//! The two editions of the control field, and the rule that grants bits of either: document 02, d, with what a row adds to it, i.
-
-use core::array;
+//! The two editions of the control field, and the rule that grants bits of either: document 02, d.
 
 /// Control bit 0, Express hot plug.
 pub(crate) const EXPRESS_HOT_PLUG: u32 = 1 << 0;
@@ -14,14 +12,14 @@ const EXPRESS_CAPABILITY: u32 = 1 << 4;
 const PORT_CONTAINMENT: u32 = 1 << 7;
 
 /// Support bit 7, Error Disconnect Recover.
-const ERROR_DISCONNECT_RECOVER: u16 = 1 << 7;
+const ERROR_DISCONNECT_RECOVER: u32 = 1 << 7;
 
 /// What a control bit needs, unless it is held already.
 struct Needs {
     /// The control bits that must be granted with it.
     control: u32,
     /// The support bits that must be declared, in this call or before.
-    support: u16,
+    support: u32,
 }
 
 impl Needs {
@@ -33,6 +31,11 @@ impl Needs {
         control: EXPRESS_CAPABILITY,
         support: 0,
     };
+
+    /// Whether the control bits are in the set and the support bits among the declared ones.
+    fn are_met(&self, set: u32, declared: u32) -> bool {
+        self.control & !set == 0 && self.support & !declared == 0
+    }
 }
 
 /// The control bits of the old edition, from bit 0: document 001, section 4.5, as document 01 has it with document 02, b.
@@ -88,26 +91,6 @@ static EDITION_3_3: [Needs; 10] = [
     Needs::NOTHING,
 ];
 
-/// The support bits that must be declared for each control bit, from bit 0; no edition knows one above 9.
-pub(crate) type SupportNeeds = [u16; 10];
-
-/// All bits of the sets together.
-fn union(sets: &[u32]) -> u32 {
-    sets.iter().fold(0, |bits, set| bits | set)
-}
-
-/// The control bits that lack something: of what each needs, from bit 0, not all is there.
-#[inline]
-fn lacking(needs: impl Iterator<Item = u32>, there: u32) -> u32 {
-    let mut lacking = 0;
-    for (bit, needed) in needs.enumerate() {
-        if needed & !there != 0 {
-            lacking |= 1 << bit;
-        }
-    }
-    lacking
-}
-
 /// The edition of the control field that a bridge answers by.
 #[derive(Clone, Copy, Debug)]
 pub(crate) enum Edition {
@@ -150,25 +133,6 @@ impl Edition {
         }
     }
 
-    /// What a row gives for its 32 control bits, joined with what the edition itself needs; `None` where a support bit is not known, or
-    /// any is given for a control bit that is not known.
-    pub(crate) fn support_needs(self, given: &[u32; 32]) -> Option<SupportNeeds> {
-        let (known, unknown) = given.split_at(self.needs().len());
-        if union(known) & !self.known_support() != 0 || union(unknown) != 0 {
-            return None;
-        }
-        Some(self.joined(array::from_fn(|bit| given[bit] as u16)))
-    }
-
-    /// The given support bits and those that the edition itself needs.
-    #[inline]
-    fn joined(self, mut given: SupportNeeds) -> SupportNeeds {
-        for (given, own) in given.iter_mut().zip(self.needs()) {
-            *given |= own.support;
-        }
-        given
-    }
-
     /// The support bits that count as declared: the supported ones and the known ones of this call.
     #[inline]
     pub(crate) fn declared(self, supported: u32, support: u32) -> u32 {
@@ -177,31 +141,33 @@ impl Edition {
 
     /// The largest set of requested known bits in which each is held, or is permitted and has what it needs.
     #[inline]
-    pub(crate) fn granted(
-        self,
-        permitted: u32,
-        held: u32,
-        declared: u32,
-        requested: u32,
-        support_needs: &SupportNeeds,
-    ) -> u32 {
-        let undeclared = lacking(support_needs.iter().map(|&bits| bits.into()), declared);
-        let mut set = requested & self.known_control() & (held | (permitted & !undeclared));
+    pub(crate) fn granted(self, permitted: u32, held: u32, declared: u32, requested: u32) -> u32 {
+        let mut set = requested & self.known_control() & (held | permitted);
         loop {
             // What a bit lacks here it lacks in every smaller set, so no bit is taken out that could stay.
-            let control_needs = self.needs().iter().map(|needs| needs.control);
-            let kept = set & (held | !lacking(control_needs, set));
+            let kept = set & (held | !self.lacking(set, declared));
             if kept == set {
                 return set;
             }
             set = kept;
         }
     }
+
+    /// The known control bits that need a control bit outside the set or a support bit that is not declared.
+    #[inline]
+    fn lacking(self, set: u32, declared: u32) -> u32 {
+        let mut lacking = 0;
+        for (bit, needs) in self.needs().iter().enumerate() {
+            if !needs.are_met(set, declared) {
+                lacking |= 1 << bit;
+            }
+        }
+        lacking
+    }
 }
 
 /// The requested bits that are granted by the edition of that number (the old one when there is no such edition): `supported` are the
-/// bridge's support bits, `support` is the support DWORD of the call, `needs` are the support bits that the row gives for control bits
-/// 0 to 9.
+/// bridge's support bits, `support` is the support DWORD of the call.
 #[inline]
 pub fn granted(
     edition: u8,
@@ -210,10 +176,8 @@ pub fn granted(
     supported: u32,
     support: u32,
     requested: u32,
-    needs: &[u16; 10],
 ) -> u32 {
     let edition = Edition::numbered(edition).unwrap_or(Edition::Old);
     let declared = edition.declared(supported, support);
-    let support_needs = edition.joined(*needs);
-    edition.granted(permitted, held, declared, requested, &support_needs)
+    edition.granted(permitted, held, declared, requested)
 }

@@ -1,8 +1,7 @@
 //! The documents in ordinary Rust: what the random trials and the timings compare with.
 //!
 //! It shares nothing with the proved program but the documents (the modules follow the sections of document 01; `rom` is document 02,
-//! a, `edition` its d and i, `writer` its g and `masks` its h) and the numbers of the two kinds of bridge and of the two editions, 0
-//! and 1.
+//! a, `edition` its d, `writer` its g and `masks` its h) and the numbers of the two kinds of bridge and of the two editions, 0 and 1.
 //! Imports go one way: `bridge` is what the table keeps, others above it work on one bridge, and `table` is on top.
 #![no_std]
 #![forbid(unsafe_code)]

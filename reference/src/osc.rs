@@ -76,7 +76,6 @@ impl<'a> OscCall<'a> {
             bridge.held.into(),
             declared,
             requested,
-            &bridge.support_needs,
         );
         if u32::from_le_bytes(status) & QUERY == 0 {
             bridge.held |= granted as u16;

@@ -28,8 +28,6 @@ pub struct BridgeRow {
     pub permitted: u32,
     /// The edition of the control field: 0 the old one, 1 edition 3.3.
     pub edition: u8,
-    /// For each control bit, from bit 0, the support bits that must be declared; none by default.
-    pub needs: [u32; 32],
 }
 
 impl BridgeRow {
@@ -44,7 +42,6 @@ impl BridgeRow {
         if self.owner.0 > MAX_OWNER || self.permitted & !permissible != 0 {
             return None;
         }
-        let support_needs = edition.support_needs(&self.needs)?;
         let buses = BusRange::new(self.segment, self.first_bus, self.last_bus)?;
         let entry = entries.iter().find(|entry| entry.buses.encloses(buses))?;
         Some(Bridge {
@@ -55,7 +52,6 @@ impl BridgeRow {
             permitted: self.permitted as u16,
             held: 0,
             supported: 0,
-            support_needs,
         })
     }
 }

@@ -1,7 +1,7 @@
 // _OSC: framing, the granting rule by masks, the answer buffer, what a taking call adds.
 ghost use Rattle.std.specs.Prelude.{◌≡◌, true, false, cond, ◌++◌, ℕ, ◌-◌, ◌%◌, ◌≤◌, length, replicate};
 ghost use Rattle.osc.specs.Granted.{granted_answer};
-ghost use Rattle.osc.specs.Needs.{needs_met, supports_met, row_needs_met};
+ghost use Rattle.osc.specs.Needs.{needs_met, supports_met};
 ghost use Rattle.rules.specs.Numbers.{le32, same_bytes, within};
 ghost use Rattle.rules.specs.Tables.{holding};
 ghost use Rattle.rules.specs.Granting.{granted_by};
@@ -24,7 +24,7 @@ ghost use Rattle.rules.specs.Osc.{
 use rules::constants::{
     EDITION_3_3, KNOWN_CONTROL_3_0, KNOWN_CONTROL_3_3, KNOWN_SUPPORT_3_0, KNOWN_SUPPORT_3_3,
 };
-use rules::{Bridge, Holding, KNOWN_CONTROL_BITS};
+use rules::{Bridge, Holding};
 
 // The UUID as it stands in the buffer.
 const UUID: [u8; 16] = *b"\x5b\x4d\xdb\x33\xf7\x1f\x1c\x40\x96\x57\x74\x41\xc0\x3d\xd7\x66";
@@ -153,17 +153,15 @@ fn granted_3_3(permitted: u32, held: u32, declared: u32, requested: u32) -> u32
     available & (held | needs_met_3_3(available))
 }
 
-// The control bits whose support bits, by the sets of a row, are declared.
-fn row_needs_met(needs: [u16; KNOWN_CONTROL_BITS], declared: u32) -> u32
-    ensures { result ≡ row_needs_met needs declared }
+// The control bits granted of those requested, by the bridge's edition.
+pub fn granted_bits(b: Bridge, support: u32, requested: u32) -> u32
+    ensures { result ≡ granted_of b support requested }
 {
-    let mut set = 0;
-    let mut i = 0;
-    while i < KNOWN_CONTROL_BITS {
-        set |= met(declared, needs[i] as u32, 1 << i);
-        i += 1;
+    if b.edition == EDITION_3_3 {
+        let declared = b.supported | (support & KNOWN_SUPPORT_3_3);
+        return granted_3_3(b.permitted, b.held, declared, requested);
     }
-    set
+    granted_3_0(b.permitted, b.held, requested)
 }
 
 // The support bits that an edition knows.
@@ -174,18 +172,6 @@ fn known_support(edition: u8) -> u32
         return KNOWN_SUPPORT_3_3;
     }
     KNOWN_SUPPORT_3_0
-}
-
-// The control bits granted of those requested, by the bridge's edition. A bit whose row asks for support that is not declared is as if it were not permitted.
-pub fn granted_bits(b: Bridge, support: u32, requested: u32) -> u32
-    ensures { result ≡ granted_of b support requested }
-{
-    let declared = b.supported | (support & known_support(b.edition));
-    let permitted = b.permitted & row_needs_met(b.needs, declared);
-    if b.edition == EDITION_3_3 {
-        return granted_3_3(permitted, b.held, declared, requested);
-    }
-    granted_3_0(permitted, b.held, requested)
 }
 
 // Whether any requested bit is not granted, as a status. What is granted was requested, so that to compare the two is enough.

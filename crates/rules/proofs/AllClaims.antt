@@ -4,7 +4,6 @@ use Rattle.rules.proofs.BenchSheet.{bench_sheet}
 use Rattle.rules.proofs.BenchRuns.{example_runs}
 use Rattle.rules.proofs.Lists.{every_and_pair}
 use Rattle.rules.proofs.Largest.{granted_largest}
-use Rattle.rules.proofs.Joining.{row_needs}
 use Rattle.rules.proofs.Granting.{old_rows}
 use Rattle.rules.proofs.Claims.{refusals_exactly, refused_changes_nothing, tables_sound, history_holds, queries_change_nothing, held_until_reset, there_and_back, back_and_there, one_address, separation, negotiation}
 use Rattle.rules.proofs.Buffers.{buffers_keep_length}
@@ -17,7 +16,6 @@ pub all-claims : AllClaims
 all-claims = record {
   every_and_pair = every_and_pair;
   granted_largest = granted_largest;
-  row_needs = row_needs;
   old_rows = old_rows;
   refusals_exactly = refusals_exactly;
   refused_changes_nothing = refused_changes_nothing;

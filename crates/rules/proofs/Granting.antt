@@ -7,38 +7,43 @@ use mathlib.Core.List.{List}
 use Prim.Native.Nat.{ℕ, zero, suc, ◌^◌, ◌≤◌, ◌<◌}
 use native.Mathlib.Omega.{arith}
 use native.Mathlib.Decide.{dec_lt}
-use lib.Bits.{bit_and, bit_or}
+use borrow.Author.Tests.{eq-eqb}
+use lib.Bits.{bit_and, bit_or, and_zero_l}
 use lib.Dec.{eqb, leb}
 use lib.ListN.{length, get_or}
 use lib.Pow.{pow_mono}
 use Rattle.rules.specs.Numbers.{bit, within, number}
 use Rattle.rules.specs.Limits.{max_owner}
 use Rattle.rules.specs.Lists.{is_none}
-use Rattle.rules.specs.Start.{entry_of, express, conventional, permissible, needs_sound}
+use Rattle.rules.specs.Start.{entry_of, express, conventional, permissible}
 use Rattle.rules.specs.Granting.{Needs, needs_of, granted_by}
-use Rattle.rules.specs.Editions.{edition30, edition33, controls30, control_bits, known_control, known_support}
-use Rattle.rules.specs.Osc.{declared, bits_of, granted, support, control, osc_answer, osc_after}
-use Rattle.rules.specs.Claims.{NoNeeds, old_needs, old_available, old_granted_bit, old_granted, OldRows}
+use Rattle.rules.specs.Editions.{edition30, edition33, controls30, controls33, control_bits, known_control, known_support}
+use Rattle.rules.specs.Osc.{declared, granted, support, control, osc_answer, osc_after}
+use Rattle.rules.specs.Claims.{old_needs, old_available, old_granted_bit, old_granted, OldRows}
 use Rattle.rules.specs.declared.Bridge.{Bridge}
 use Rattle.rules.proofs.Tests.{same_test, and-off}
 use Rattle.rules.proofs.Bits.{bit-and, bit-or}
-use Rattle.rules.proofs.Sets.{bit-number, bit_high, bits_are, same_set, within-sub, sub_within, within-0}
+use Rattle.rules.proofs.Sets.{bit-number, bit_high, bits_are, same_set, within-sub, sub_within}
 use Rattle.rules.proofs.Largest.{granted-is-largest, granted-by-lt, granted-by-again}
 use Rattle.rules.proofs.OnePass.{closed, by-masks}
-use Rattle.rules.proofs.Joining.{most, row_needs}
 
--- a bridge has few bits
-few : (b : Bridge) → length (bits_of b) ≤ 32
-few b = rw (row_needs.0 b).0 (omega (arith, most b.edition))
+-- an edition has few bits
+few : (edition : ℕ) → length (control_bits edition) ≤ 32
+unfolding control_bits
+few edition = go (eqb edition 1)
+  where
+    go : (q : Bool) → length (cond q controls33 controls30) ≤ 32
+    go true = omega arith
+    go false = omega arith
 
 module _ (b : Bridge) (w r : ℕ) where
   abbrev bits : List Needs
-  bits = bits_of b
+  bits = control_bits b.edition
 
   pub granted-lt : granted b w r < 2 ^ 32
   unfolding granted
   granted-lt =
-      let m : 2 ^ length bits ≤ 2 ^ 32 = pow_mono (few b) in
+      let m : 2 ^ length bits ≤ 2 ^ 32 = pow_mono (few b.edition) in
       omega (arith, granted-by-lt bits b.permitted b.held (declared b w) r, m)
 
   -- what is granted was requested
@@ -77,6 +82,9 @@ closed30 = refl
 within-16 : (x : ℕ) → within 16 x ≡ bit x 4
 within-16 x = same_test (within 16 x) (bit x 4) (λ e. within-sub 16 x e 4 bit-4) (λ e. sub_within 16 x (λ j q. ap (bit x) (bit-16 j q) ∙ e))
 
+pub within-0 : (x : ℕ) → within 0 x ≡ true
+within-0 x = eq-eqb (bit_and 0 x) 0 (and_zero_l x)
+
 no-support : (i : ℕ) → (needs_of controls30 i).supports ≡ 0
 no-support zero = refl
 no-support (suc zero) = refl
@@ -91,7 +99,7 @@ module _ (p h u r m : ℕ) where
       → bit_and (bit_and (bit_and r 0x1F) (bit_or h p)) (bit_or h m) ≡ granted_by controls30 p h u r
   masks-30 = by-masks controls30 closed30 p h u r 0x1F p m refl (λ i k. rw (no-support i, within-0 u) (sym (and-on (bit p i))))
 
-module _ (b : Bridge) (e : b.edition ≡ edition30) (none : NoNeeds b.needs) (w r : ℕ) where
+module _ (b : Bridge) (e : b.edition ≡ edition30) (w r : ℕ) where
   abbrev a : ℕ
   a = bit_and (bit_and r 0x1F) (bit_or b.held b.permitted)
 
@@ -101,9 +109,9 @@ module _ (b : Bridge) (e : b.edition ≡ edition30) (none : NoNeeds b.needs) (w 
   abbrev m : ℕ
   m = number 5 met
 
-  bits-30 : bits_of b ≡ controls30
+  bits-30 : control_bits b.edition ≡ controls30
   unfolding control_bits
-  bits-30 = (row_needs.0 b).2 none ∙ ap control_bits e
+  bits-30 = ap control_bits e
 
   by_mask : granted b w r ≡ bit_and a (bit_or b.held m)
   unfolding granted
@@ -127,16 +135,16 @@ module _ (b : Bridge) (e : b.edition ≡ edition30) (none : NoNeeds b.needs) (w 
   alike : within 16 a ≡ within 16 (old_available b r)
   alike = within-16 a ∙ available-4 ∙ sym (within-16 (old_available b r))
 
-  nothing : within 0 a ≡ within 0 (old_available b r)
-  nothing = within-0 a ∙ sym (within-0 (old_available b r))
+  none : within 0 a ≡ within 0 (old_available b r)
+  none = within-0 a ∙ sym (within-0 (old_available b r))
 
   -- a bit's needs are met as they were
   same-needs : (i : ℕ) → i < 5 → met i ≡ within (get_or old_needs i 0) (old_available b r)
   same-needs zero k = alike
-  same-needs (suc zero) k = nothing
+  same-needs (suc zero) k = none
   same-needs (suc (suc zero)) k = alike
   same-needs (suc (suc (suc zero))) k = alike
-  same-needs (suc (suc (suc (suc zero)))) k = nothing
+  same-needs (suc (suc (suc (suc zero)))) k = none
   same-needs (suc (suc (suc (suc (suc i))))) k = absurd (omega arith)
 
   pub old_bit : (i : ℕ) → bit (granted b w r) i ≡ old_granted_bit b r i
@@ -161,31 +169,30 @@ module _ (b : Bridge) (e : b.edition ≡ edition30) (none : NoNeeds b.needs) (w 
       above : 5 ≤ i → Same
       above k = rw (bit_high 5 0x1F i (omega arith) k, and-off (bit r i))
 
--- on the old edition without needs the support DWORD does not count; the same one gives the same
-pub granted-support : (b : Bridge) (v w r : ℕ) → ((b.edition ≡ edition30) × NoNeeds b.needs) ⊎ (v ≡ w) → granted b v r ≡ granted b w r
-granted-support b v w r (inl (e, n)) = same_set (granted b v r) (granted b w r) (λ i. old_bit b e n v r i ∙ sym (old_bit b e n w r i))
+-- on the old edition the support DWORD does not count; the same one gives the same
+pub granted-support : (b : Bridge) (v w r : ℕ) → (b.edition ≡ edition30) ⊎ (v ≡ w) → granted b v r ≡ granted b w r
+granted-support b v w r (inl e) = same_set (granted b v r) (granted b w r) (λ i. old_bit b e v r i ∙ sym (old_bit b e w r i))
 granted-support b v w r (inr e) = ap (λ (x : ℕ). granted b x r) e
 
 old_below : (b : Bridge) (r i : ℕ) → 32 ≤ i → old_granted_bit b r i ≡ false
 old_below b r i k = rw (bit_high 32 0x1F i (omega arith) k, and-off (bit r i))
 
-old-set : (b : Bridge) → b.edition ≡ edition30 → NoNeeds b.needs → (w r : ℕ) → granted b w r ≡ old_granted b r
-old-set b e n w r = same_set (granted b w r) (old_granted b r) (λ i. old_bit b e n w r i ∙ sym (bits_are 32 (old_granted_bit b r) (old_below b r) i))
+old-set : (b : Bridge) → b.edition ≡ edition30 → (w r : ℕ) → granted b w r ≡ old_granted b r
+old-set b e w r = same_set (granted b w r) (old_granted b r) (λ i. old_bit b e w r i ∙ sym (bits_are 32 (old_granted_bit b r) (old_below b r) i))
 
--- two tests more, of the edition and of the needs, which pass
-tests-more : (x e p q n : Bool) → e ≡ true → p ≡ q → n ≡ true → (x && e && p && n) ≡ (x && q)
-tests-more x e p q n h k l = rw (h, k, l, and-on x, and-on (x && q))
+-- one test more, of the edition, which passes
+test-more : (x e p q : Bool) → e ≡ true → p ≡ q → (x && e && p) ≡ (x && q)
+test-more x e p q h k = rw (h, k, and-on x)
 
 pub old_rows : OldRows
 unfolding known_control known_support control_bits osc_answer osc_after
 old_rows = (
-  λ b e n. (
-    λ w r i. (old_bit b e n w r i, old-set b e n w r),
-    λ revision count uuid caps. (rw (old-set b e n (support caps) (control caps)), rw (old-set b e n (support caps) (control caps), e)),
+  λ b e. (
+    λ w r i. (old_bit b e w r i, old-set b e w r),
+    λ revision count uuid caps. (rw (old-set b e (support caps) (control caps)), rw (old-set b e (support caps) (control caps), e)),
   ),
-  λ es r e n. tests-more
+  λ es r e. test-more
       (leb r.owner.0 max_owner && leb r.first_bus r.last_bus && not (is_none (entry_of es r)) && (eqb r.kind express || eqb r.kind conventional))
       (eqb r.edition edition30 || eqb r.edition edition33) (within r.permitted (permissible r.kind r.edition))
-      (within r.permitted (cond (eqb r.kind conventional) 0x02 0x1F)) (needs_sound r.edition r.needs) (rw e) (rw e)
-      ((row_needs.1 r.edition r.needs).1 (λ i. rw (n i) (within-0 (cond (bit (known_control r.edition) i) (known_support r.edition) 0)))),
+      (within r.permitted (cond (eqb r.kind conventional) 0x02 0x1F)) (rw e) (rw e),
 )

@@ -10,7 +10,8 @@ use native.Mathlib.Decide.{ℕ_discrete}
 use lib.ListN.{length}
 use Rattle.rules.specs.Numbers.{bit, within, number}
 use Rattle.rules.specs.Granting.{Needs, needs_of, stays, Fits, Largest, requested_known, trim, trimmed, granted_by}
-use Rattle.rules.specs.Osc.{declared, bits_of, granted}
+use Rattle.rules.specs.Editions.{control_bits}
+use Rattle.rules.specs.Osc.{declared, granted}
 use Rattle.rules.specs.Claims.{GrantedLargest}
 use Rattle.rules.proofs.Tests.{and-true, and_is, or_mono}
 use Rattle.rules.proofs.Bits.{same_bits}
@@ -131,4 +132,4 @@ module _ (bits : List Needs) (p h u : ℕ) where
 
 pub granted_largest : GrantedLargest
 unfolding granted
-granted_largest = (granted-is-largest, λ b w r. granted-is-largest (bits_of b) b.permitted b.held (declared b w) r)
+granted_largest = (granted-is-largest, λ b w r. granted-is-largest (control_bits b.edition) b.permitted b.held (declared b w) r)

@@ -6,7 +6,6 @@ pub mod Bits
 pub mod Sets
 pub mod Largest
 pub mod OnePass
-pub mod Joining
 pub mod Granting
 pub mod Indexed
 pub mod Local

@@ -50,14 +50,6 @@ module _ {A : Type 0} (d : A) where
   padded-in z (suc n) (x ∷ l) zero k h = refl
   padded-in z (suc n) (x ∷ l) (suc i) k h = padded-in z n l i (le_of_suc-le-suc k) (le_of_suc-le-suc h)
 
-  -- filled up with what stands past its end, it reads as before
-  pub padded-at : (n : ℕ) (l : List A) (i : ℕ) → i < n → get_or (padded d n l) i d ≡ get_or l i d
-  padded-at zero l i h = absurd (not-suc-le-zero h)
-  padded-at (suc n) [] zero h = refl
-  padded-at (suc n) [] (suc i) h = padded-at n [] i (le_of_suc-le-suc h)
-  padded-at (suc n) (x ∷ l) zero h = refl
-  padded-at (suc n) (x ∷ l) (suc i) h = padded-at n l i (le_of_suc-le-suc h)
-
 pub every_and_pair : EveryAndPair
 every_and_pair A d l = (λ p. (every-at d p l, at_every d p l), λ p. (pairwise-at d p l, at-pairwise d p l))
 

@@ -16,7 +16,7 @@ use Rattle.rules.specs.Editions.{edition30}
 use Rattle.rules.specs.Osc.{granted, grant_status, uuid_bytes, framing_bad, recognised, status, query, support, control, osc_answer}
 use Rattle.rules.specs.Calls.{osc, Call, number_at, step, table_after}
 use Rattle.rules.specs.History.{reaches, history_step}
-use Rattle.rules.specs.Claims.{Buffers, right_call, answer_of, Undisturbed, NoNeeds, SameSupport, returned, Negotiated}
+use Rattle.rules.specs.Claims.{Buffers, right_call, answer_of, Undisturbed, SameSupport, returned, Negotiated}
 use Rattle.rules.specs.declared.Bridge.{Bridge}
 use Rattle.rules.specs.declared.BridgeNumber.{BridgeNumber}
 use Rattle.rules.specs.declared.SessionNumber.{SessionNumber}
@@ -86,7 +86,7 @@ module _ (t : Table) (s : SessionNumber) (n : BridgeNumber) (h : n.0 < t.count) 
 
 module _ (t : Table) (s : SessionNumber) (n : BridgeNumber) (h : n.0 < t.count) (o : owns s (bridge_at t n.0) ≡ true) (w r : ℕ)
     (u : Table) (f : fixed u ≡ fixed t) (k : holding (bridge_at u n.0) ≡ holding (bridge_at t n.0))
-    (c : Buffers) (v : (((bridge_at t n.0).edition ≡ edition30) × NoNeeds (bridge_at t n.0).needs) ⊎ (support c.caps ≡ w)) (e : control c.caps ≡ granted (bridge_at t n.0) w r) where
+    (c : Buffers) (v : ((bridge_at t n.0).edition ≡ edition30) ⊎ (support c.caps ≡ w)) (e : control c.caps ≡ granted (bridge_at t n.0) w r) where
   in_count : n.0 < u.count
   in_count = subst (λ (x : Table). n.0 < x.count) (sym f) h
 

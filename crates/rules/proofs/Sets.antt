@@ -10,7 +10,7 @@ use native.Mathlib.Decide.{dec_lt}
 use borrow.Author.Tests.{eqb-true, eq-eqb}
 use lib.Dec.{eqb}
 use lib.Pow.{pow_mono}
-use lib.Bits.{bit_and, bit_or, and_zero_l, or_shifted_r}
+use lib.Bits.{bit_and, bit_or}
 use Rattle.rules.specs.Numbers.{bit, within, number}
 use Rattle.rules.proofs.Tests.{and-true, and_is, or-true, or_left, or_right, same_test}
 use Rattle.rules.proofs.Bits.{bit-and, bit-or, bit-half, same_bits}
@@ -25,20 +25,6 @@ digit_lt false = omega arith
 pub number_lt : (n : ℕ) (f : ℕ → Bool) → number n f < 2 ^ n
 number_lt zero f = omega arith
 number_lt (suc n) f = omega (arith, number_lt n (λ i. f (suc i)), digit_lt (f 0))
-
--- one bit more, above the others
-number-snoc : (n : ℕ) (f : ℕ → Bool) → number (suc n) f ≡ digit (f n) * 2 ^ n + number n f
-number-snoc zero f = omega arith
-number-snoc (suc n) f =
-    let e = number-snoc n (λ i. f (suc i)) in
-    omega (arith, e)
-
-pub number-next : (n : ℕ) (f : ℕ → Bool) → bit_or (number n f) (cond (f n) (2 ^ n) 0) ≡ number (suc n) f
-number-next n f = ap (bit_or (number n f)) (is (f n)) ∙ or_shifted_r (digit (f n)) n (number n f) (number_lt n f) ∙ sym (number-snoc n f)
-  where
-    is : (q : Bool) → cond q (2 ^ n) 0 ≡ digit q * 2 ^ n
-    is true = omega arith
-    is false = refl
 
 low_bit : (q : Bool) (y : ℕ) → bit (digit q + 2 * y) 0 ≡ q
 unfolding bit
@@ -109,9 +95,6 @@ within-sub a b e i q = (and-true (bit a i) (bit b i) (sym (bit-and a b i) ∙ ap
 pub sub_within : (a b : ℕ) → Sub a b → within a b ≡ true
 sub_within a b f = eq-eqb (bit_and a b) a
     (same_set (bit_and a b) a (λ i. bit-and a b i ∙ same_test (bit a i && bit b i) (bit a i) (λ q. (and-true (bit a i) (bit b i) q).0) (λ q. and_is q (f i q))))
-
-pub within-0 : (x : ℕ) → within 0 x ≡ true
-within-0 x = eq-eqb (bit_and 0 x) 0 (and_zero_l x)
 
 -- two sets lie within a third where their union does
 pub within-or : (a b c : ℕ) → within (bit_or a b) c ≡ (within a c && within b c)

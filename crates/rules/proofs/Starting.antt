@@ -81,7 +81,7 @@ no_entry = record { base = 0; segment = 0; start_bus = 0; end_bus = 0 }
 
 -- what stands past the end of a list of rows
 abbrev pub no_row : BridgeRow
-no_row = record { permitted = 0; segment = 0; owner = record { 0 = 0 }; first_bus = 0; last_bus = 0; kind = 0; edition = 0; needs = [] }
+no_row = record { permitted = 0; segment = 0; owner = record { 0 = 0 }; first_bus = 0; last_bus = 0; kind = 0; edition = 0 }
 
 module _ (es : List Entry) (rows : List BridgeRow) (se : every entry_sound es ≡ true) (pe : pairwise share_no_byte es ≡ true)
     (few : length rows ≤ max_rows) (sr : every (row_sound es) rows ≡ true) (pr : pairwise rows_apart rows ≡ true) where

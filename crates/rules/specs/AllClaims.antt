@@ -1,5 +1,5 @@
 -- All claims, one field for each. Its one proof is `all-claims`; the public crate uses every field of it.
-use Rattle.rules.specs.Claims.{EveryAndPair, GrantedLargest, RowNeeds, OldRows, RefusalsExactly, RefusedChangesNothing, BuffersKeepLength, RecordPart, ImagePart, SoundChain, ThreeCases, SoundPairs, WrittenSound, WrittenReadBack, ReadWrittenAgain, TablesSound, History, QueriesChangeNothing, HeldUntilReset, ThereAndBack, BackAndThere, OneAddress, Separation, Negotiation}
+use Rattle.rules.specs.Claims.{EveryAndPair, GrantedLargest, OldRows, RefusalsExactly, RefusedChangesNothing, BuffersKeepLength, RecordPart, ImagePart, SoundChain, ThreeCases, SoundPairs, WrittenSound, WrittenReadBack, ReadWrittenAgain, TablesSound, History, QueriesChangeNothing, HeldUntilReset, ThereAndBack, BackAndThere, OneAddress, Separation, Negotiation}
 use Rattle.rules.specs.BenchSheet.{BenchSheet}
 use Rattle.rules.specs.BenchRuns.{ExampleRuns}
 
@@ -7,8 +7,6 @@ pub record AllClaims : Type 1 where
   pub every_and_pair : EveryAndPair
   -- document 02, d
   pub granted_largest : GrantedLargest
-  -- document 02, i
-  pub row_needs : RowNeeds
   pub old_rows : OldRows
   -- demand 1
   pub refusals_exactly : RefusalsExactly

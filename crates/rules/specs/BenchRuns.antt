@@ -42,21 +42,8 @@ shared_byte =
     ∷ 0 ∷ 0 ∷ 0 ∷ 0 ∷ 0 ∷ 0 ∷ 0 ∷ 0x0F ∷ 0 ∷ 0 ∷ 0 ∷ 0 ∷ 0 ∷ 0 ∷ 0xF0 ∷ 0xE0
     ∷ 0 ∷ 0 ∷ 0 ∷ 0 ∷ 1 ∷ 0 ∷ 0 ∷ 0 ∷ 0 ∷ 0 ∷ 0 ∷ 0 ∷ []
 
-abbrev pub row_needing : (needs : List ℕ) (edition kind owner first last permitted : ℕ) → BridgeRow
-row_needing needs edition kind owner first last permitted = record {
-  permitted = permitted;
-  segment = 0;
-  owner = record { 0 = owner };
-  first_bus = first;
-  last_bus = last;
-  kind = kind;
-  edition = edition;
-  needs = needs;
-}
-
--- a row without needs
 abbrev pub row_in : (edition kind owner first last permitted : ℕ) → BridgeRow
-row_in = row_needing (replicate 32 0)
+row_in edition kind owner first last permitted = record { permitted = permitted; segment = 0; owner = record { 0 = owner }; first_bus = first; last_bus = last; kind = kind; edition = edition }
 
 -- a row of the old edition
 abbrev pub row : (kind owner first last permitted : ℕ) → BridgeRow

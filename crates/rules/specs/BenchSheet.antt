@@ -22,13 +22,9 @@ pub record Answered : Type 0 where
   pub answer : List ℕ
   pub held : ℕ
 
--- a bridge of session 1 with base 0xE0000000 and buses 1 to 2, and with these needs
-abbrev pub bridge_needing : (needs : List ℕ) (edition permitted held supported : ℕ) → Bridge
-bridge_needing n e p h u = record { base = 0xE0000000; permitted = p; held = h; supported = u; segment = 0; owner = record { 0 = 1 }; first_bus = 1; last_bus = 2; edition = e; needs = n }
-
--- one without needs
+-- a bridge of session 1 with base 0xE0000000 and buses 1 to 2
 abbrev pub bridge_in : (edition permitted held supported : ℕ) → Bridge
-bridge_in = bridge_needing (replicate 10 0)
+bridge_in e p h u = record { base = 0xE0000000; permitted = p; held = h; supported = u; segment = 0; owner = record { 0 = 1 }; first_bus = 1; last_bus = 2; edition = e }
 
 -- one of the old edition
 abbrev pub bridge_with : (permitted held : ℕ) → Bridge

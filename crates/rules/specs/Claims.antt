@@ -9,10 +9,10 @@ use Rattle.rules.specs.Numbers.{byte, word, dword, le32, bit, within, number}
 use Rattle.rules.specs.Refusals.{GivenBy}
 use Rattle.rules.specs.Tables.{nothing_held, holding, cleared, owns, bridge_at}
 use Rattle.rules.specs.Place.{InReach}
-use Rattle.rules.specs.Start.{StartInput, entry_of, express, conventional, needs_sound, row_sound, start_refusals, start_number, bridge_of, start_table, table_of, Sound}
-use Rattle.rules.specs.Granting.{Needs, needs_of, Largest, granted_by}
-use Rattle.rules.specs.Editions.{edition30, control_bits, known_control, known_support}
-use Rattle.rules.specs.Osc.{declared, bits_of, granted, grant_status, uuid_bytes, recognised, error_status, status, query, support, control, osc_answer, osc_after}
+use Rattle.rules.specs.Start.{StartInput, entry_of, express, conventional, row_sound, start_refusals, start_number, start_table, table_of, Sound}
+use Rattle.rules.specs.Granting.{Needs, Largest, granted_by}
+use Rattle.rules.specs.Editions.{edition30, control_bits}
+use Rattle.rules.specs.Osc.{declared, granted, grant_status, uuid_bytes, recognised, error_status, status, query, support, control, osc_answer, osc_after}
 use Rattle.rules.specs.Records.{and_mask, or_mask, meaningful, block_sound, deciding, record_in, record_refusals, find_record, and_or}
 use Rattle.rules.specs.Rom.{image_signature, structure_at, images_of, rom_sound, image_refusals, find_image, Chain}
 use Rattle.rules.specs.Writer.{present_in, write_refusals, write_records, buffer_after, read_settings, place_among, only_rising, dwords_in, are_bytes}
@@ -40,28 +40,11 @@ EveryAndPair = (A : Type 0) (d : A) (l : List A)
 
 -- ---- document 02, d: what is granted
 
--- whatever list of bits and needs, "the granted set is the largest set"; and a bridge grants that of its control bits and of what it permits and holds
+-- whatever list of bits and needs, "the granted set is the largest set"; and a bridge grants that of its edition and of its own bits
 abbrev pub GrantedLargest : Type 0
 GrantedLargest =
     ((bits : List Needs) (permitted held declared requested : ℕ) → Largest bits permitted held declared requested (granted_by bits permitted held declared requested))
-    × ((b : Bridge) (support requested : ℕ) → Largest (bits_of b) b.permitted b.held (declared b support) requested (granted b support requested))
-
--- document 02, i: a row gives no support bits, whatever the control bit: "none by default"
-abbrev pub NoNeeds : (needs : List ℕ) → Type 0
-NoNeeds needs = (i : ℕ) → get_or needs i 0 ≡ 0
-
--- a bridge's bits are its edition's, and what the row gives for a bit joins the support bits that it needs there; with none given they are the edition's;
--- a row's needs are sound just where each set lies within the known support bits, or is empty, by whether its control bit is known;
--- and the table keeps each set of a known control bit
-abbrev pub RowNeeds : Type 0
-RowNeeds =
-    ((b : Bridge) → let bits : List Needs = control_bits b.edition in
-    (length (bits_of b) ≡ length bits)
-    × ((i : ℕ) → i < length bits → needs_of (bits_of b) i ≡ record { controls = (needs_of bits i).controls; supports = bit_or (needs_of bits i).supports (get_or b.needs i 0) })
-    × (NoNeeds b.needs → bits_of b ≡ bits))
-    × ((edition : ℕ) (needs : List ℕ)
-    → needs_sound edition needs ≡ true ↔ ((i : ℕ) → within (get_or needs i 0) (cond (bit (known_control edition) i) (known_support edition) 0) ≡ true))
-    × ((es : List Entry) (r : BridgeRow) (i : ℕ) → bit (known_control r.edition) i ≡ true → get_or (bridge_of es r).needs i 0 ≡ get_or r.needs i 0)
+    × ((b : Bridge) (support requested : ℕ) → Largest (control_bits b.edition) b.permitted b.held (declared b support) requested (granted b support requested))
 
 -- the granting rule as it was, of document 01 with document 02, b: the old edition's control bits from 0 up, each with the set of control bits that it needs
 abbrev pub old_needs : List ℕ
@@ -93,10 +76,10 @@ old_row_sound es r =
     leb r.owner.0 max_owner && leb r.first_bus r.last_bus && not (is_none (entry_of es r)) && (eqb r.kind express || eqb r.kind conventional)
     && within r.permitted (cond (eqb r.kind conventional) 0x02 0x1F)
 
--- "Rows of the old edition answer as they did", unless they have needs: what is granted, by that rule; the whole answer; what the bridge holds after it; which rows are sound
+-- "Rows of the old edition answer as they did": what is granted, by that rule; the whole answer; what the bridge holds after it; which rows are sound
 abbrev pub OldRows : Type 0
 OldRows =
-    ((b : Bridge) → b.edition ≡ edition30 → NoNeeds b.needs
+    ((b : Bridge) → b.edition ≡ edition30
     → ((w requested i : ℕ) → (bit (granted b w requested) i ≡ old_granted_bit b requested i) × (granted b w requested ≡ old_granted b requested))
     × ((revision count : ℕ) (uuid caps : List ℕ)
     → let g : ℕ = old_granted b (control caps) in
@@ -105,7 +88,7 @@ OldRows =
     (le32 (error_status revision uuid) ++ replicate (4 * count - 4) 0))
     × (osc_after b revision count uuid caps ≡ cond (recognised revision count uuid && not (query caps))
     (record { held = bit_or b.held g; supported = bit_or b.supported (bit_and (support caps) 0x1F) }) (holding b))))
-    × ((es : List Entry) (r : BridgeRow) → r.edition ≡ edition30 → NoNeeds r.needs → row_sound es r ≡ old_row_sound es r)
+    × ((es : List Entry) (r : BridgeRow) → r.edition ≡ edition30 → row_sound es r ≡ old_row_sound es r)
 
 -- ---- demand 1: a listed refusal exactly when its condition holds and none earlier does
 
@@ -202,7 +185,7 @@ ReadWrittenAgain = (block buffer : List ℕ) → are_bytes block ≡ true → bl
 
 -- ---- what start leaves and every call keeps
 
--- a call changes no owner, segment, bus, base, edition, needs or permitted bit: the bridge is the same but for what it holds
+-- a call changes no owner, segment, bus, base, edition or permitted bit: the bridge is the same but for what it holds
 abbrev pub TablesSound : Type 0
 TablesSound =
     ((x : StartInput) → Sound (start_table x))
@@ -327,9 +310,9 @@ module _ (t : Table) (s : SessionNumber) (n : BridgeNumber) (first second taking
     pub taking-control : control (answer_of taking_outcome) ≡ returned
     pub held_after : (bridge_at (step at_taking (right_call s n taking)).table n.0).held ≡ bit_or (bridge_at t n.0).held returned
 
--- document 02, d: "The three negotiating calls must now carry the same support field"; to a bridge of the old edition without needs they need not, since no bit of it needs support
+-- document 02, d: "The three negotiating calls must now carry the same support field"; to a bridge of the old edition they need not, since no bit of it needs support
 abbrev pub SameSupport : Bridge → Buffers → Buffers → Type 0
-SameSupport b c d = ((b.edition ≡ edition30) × NoNeeds b.needs) ⊎ (support d.caps ≡ support c.caps)
+SameSupport b c d = (b.edition ≡ edition30) ⊎ (support d.caps ≡ support c.caps)
 
 -- after any list of calls, by the owner
 abbrev pub Negotiation : Type 0

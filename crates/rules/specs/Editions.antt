@@ -35,10 +35,6 @@ controls33 =
     ∷ needing [] []  -- 9 PCI Express System Firmware Intermediary
     ∷ []
 
--- how many control bits an edition knows at most
-abbrev pub most_controls : ℕ
-most_controls = length controls33
-
 -- the control bits of an edition, by its number
 unfoldable pub control_bits : (edition : ℕ) → List Needs
 control_bits edition = cond (eqb edition edition33) controls33 controls30

@@ -1,6 +1,5 @@
 -- Document 02, d: the granting rule, stated "once over a list of bits and what each needs".
-use Rattle.std.specs.Prelude.{ℕ, zero, suc, ◌<◌, ◌≡◌, Bool, true, ◌&&◌, ◌||◌, List, [], ◌∷◌, length, get_or}
-use Rattle.std.specs.Int.Bits.{bit_or}
+use Rattle.std.specs.Prelude.{ℕ, zero, suc, ◌<◌, ◌≡◌, Bool, true, ◌&&◌, ◌||◌, List, [], length, get_or}
 use Rattle.rules.specs.Numbers.{bit, set_of, within, number}
 
 -- "every control or support bit that the section .. requires with it", as two sets
@@ -15,11 +14,6 @@ needing controls supports = record { controls = set_of controls; supports = set_
 -- what bit i of a list needs
 abbrev pub needs_of : List Needs → ℕ → Needs
 needs_of bits i = get_or bits i (needing [] [])
-
--- document 02, i: a list of bits with more support bits for each, which "join what that bit needs"
-abbrev pub joining : List Needs → (more : ℕ → ℕ) → List Needs
-joining [] more = []
-joining (n ∷ bits) more = record { controls = n.controls; supports = bit_or n.supports (more 0) } ∷ joining bits (λ i. more (suc i))
 
 -- the "requested known bits" of a list of control bits, from bit 0 up, which are the known ones
 unfoldable pub requested_known : List Needs → (requested : ℕ) → ℕ

@@ -1,5 +1,5 @@
 -- Document 01, "Proof of the pudding": "The list gives what they must be". Of the starting table only the number of bridges,
--- owners, permitted bits, editions and needs are read.
+-- owners, permitted bits and editions are read.
 use Rattle.std.specs.Prelude.{ℕ, Bool, not, cond, ◌&&◌, List, [], ◌∷◌, eqb}
 use Rattle.std.specs.Int.Bits.{bit_and, bit_or}
 use Rattle.rules.specs.Tables.{nothing_held, with_holding, bridge_at}

@@ -1,9 +1,9 @@
 -- Document 01, "Granting control": what a bridge grants, _OSC framing, the answer, and what a call adds.
-use Rattle.std.specs.Prelude.{ℕ, ◌-◌, ◌*◌, Bool, not, cond, ◌&&◌, ◌||◌, List, [], ◌∷◌, ◌++◌, eqb, ltb, length, get_or, replicate}
+use Rattle.std.specs.Prelude.{ℕ, ◌-◌, ◌*◌, Bool, not, cond, ◌&&◌, ◌||◌, List, [], ◌∷◌, ◌++◌, eqb, ltb, length, replicate}
 use Rattle.std.specs.Int.Bits.{bit_and, bit_or}
 use Rattle.rules.specs.Numbers.{dword, le32, same_bytes, bit, within}
 use Rattle.rules.specs.Tables.{holding}
-use Rattle.rules.specs.Granting.{Needs, joining, granted_by}
+use Rattle.rules.specs.Granting.{granted_by}
 use Rattle.rules.specs.Editions.{control_bits, known_support}
 use Rattle.rules.specs.declared.Bridge.{Bridge}
 use Rattle.rules.specs.declared.Holding.{Holding}
@@ -12,13 +12,9 @@ use Rattle.rules.specs.declared.Holding.{Holding}
 abbrev pub declared : Bridge → (support : ℕ) → ℕ
 declared b support = bit_or b.supported (bit_and support (known_support b.edition))
 
--- the control bits of the bridge's edition; document 02, i: each with "the support bits that must be declared", none where its row gives none
-unfoldable pub bits_of : Bridge → List Needs
-bits_of b = joining (control_bits b.edition) (λ i. get_or b.needs i 0)
-
--- document 02, d: "the granted set", by the bridge's control bits
+-- document 02, d: "the granted set", by the control bits of the bridge's edition
 unfoldable pub granted : Bridge → (support requested : ℕ) → ℕ
-granted b support requested = granted_by (bits_of b) b.permitted b.held (declared b support) requested
+granted b support requested = granted_by (control_bits b.edition) b.permitted b.held (declared b support) requested
 
 -- "status 0x10 if any requested bit is not granted, else 0"
 abbrev pub grant_status : (requested granted : ℕ) → ℕ

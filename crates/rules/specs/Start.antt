@@ -1,5 +1,5 @@
 -- Document 01, "The MCFG table and the starting list": the starting list, start, and what a call may require of its table.
-use Rattle.std.specs.Prelude.{ℕ, zero, suc, ◌^◌, ◌≤◌, ◌<◌, ◌≡◌, Bool, true, not, cond, ◌&&◌, ◌||◌, List, [], ◌∷◌, map, eqb, leb, length, take, drop}
+use Rattle.std.specs.Prelude.{ℕ, zero, suc, ◌^◌, ◌≤◌, ◌<◌, ◌≡◌, Bool, true, not, cond, ◌&&◌, ◌||◌, List, [], ◌∷◌, map, eqb, leb, length}
 use Rattle.std.proofs.Math.Option.{Option, none, some}
 use Rattle.rules.specs.Limits.{max_rows, max_owner}
 use Rattle.rules.specs.Lists.{every, pairwise, padded, first, is_none}
@@ -8,7 +8,7 @@ use Rattle.rules.specs.Refusals.{Refusal, ◌if◌, first_of}
 use Rattle.rules.specs.Mcfg.{entries, mcfg_sound, buses_apart, bus_end}
 use Rattle.rules.specs.Tables.{unused, table_with, bridge_at}
 use Rattle.rules.specs.Place.{in_window}
-use Rattle.rules.specs.Editions.{edition30, edition33, most_controls, control_bits, known_control, known_support}
+use Rattle.rules.specs.Editions.{edition30, edition33, known_control}
 use Rattle.rules.specs.declared.Bridge.{Bridge}
 use Rattle.rules.specs.declared.BridgeNumber.{BridgeNumber}
 use Rattle.rules.specs.declared.BridgeRow.{BridgeRow}
@@ -44,13 +44,6 @@ conventional = 1
 abbrev pub permissible : (kind edition : ℕ) → ℕ
 permissible kind edition = cond (eqb kind conventional) 0x02 (known_control edition)
 
--- document 02, i: of a row's sets by control bit, those of known bits have no "support bits not known in the row's edition", and none is "given for a
--- control bit not known there"
-unfoldable pub needs_sound : (edition : ℕ) (needs : List ℕ) → Bool
-needs_sound edition needs =
-    every (λ set. within set (known_support edition)) (take (length (control_bits edition)) needs)
-    && every (λ set. eqb set 0) (drop (length (control_bits edition)) needs)
-
 -- what is sound of one row
 abbrev pub row_sound : List Entry → BridgeRow → Bool
 row_sound es r =
@@ -60,7 +53,6 @@ row_sound es r =
     && (eqb r.kind express || eqb r.kind conventional)  -- Express or conventional
     && (eqb r.edition edition30 || eqb r.edition edition33)  -- document 02, d: the old edition or 3.3
     && within r.permitted (permissible r.kind r.edition)  -- document 02, d: no "permitted bits not known in the row's edition"
-    && needs_sound r.edition r.needs  -- document 02, i
 
 -- "two rows of one segment share no bus"
 abbrev pub rows_apart : BridgeRow → BridgeRow → Bool
@@ -81,7 +73,7 @@ start_refusals x = (6 if not (mcfg_sound x.mcfg)) ∷ (7 if not (rows_sound (ent
 unfoldable pub start_number : StartInput → ℕ
 start_number x = first_of (start_refusals x)
 
--- "whose base the row takes"; "held and supported bits start at 0"; of its needs it keeps those of the bits that an edition knows
+-- "whose base the row takes"; "held and supported bits start at 0"
 abbrev pub bridge_of : List Entry → BridgeRow → Bridge
 bridge_of es r = record {
   base = base_of (entry_of es r);
@@ -93,7 +85,6 @@ bridge_of es r = record {
   first_bus = r.first_bus;
   last_bus = r.last_bus;
   edition = r.edition;
-  needs = padded 0 most_controls r.needs;
 }
 
 -- "Bridges are numbered from 0 in list order"

@@ -1,6 +1,5 @@
 -- Document 01, "What the service does" and "Proof of the pudding": the table of host bridges, owners, and what a bridge holds.
-use Rattle.std.specs.Prelude.{ℕ, Bool, List, [], map, eqb, get_or, set, take, replicate}
-use Rattle.rules.specs.Editions.{most_controls}
+use Rattle.std.specs.Prelude.{ℕ, Bool, List, map, eqb, get_or, set, take}
 use Rattle.rules.specs.declared.Bridge.{Bridge}
 use Rattle.rules.specs.declared.SessionNumber.{SessionNumber}
 use Rattle.rules.specs.declared.Table.{Table}
@@ -26,7 +25,6 @@ with_holding b h = record {
   first_bus = b.first_bus;
   last_bus = b.last_bus;
   edition = b.edition;
-  needs = b.needs;
 }
 
 -- the bridge with nothing held
@@ -37,28 +35,13 @@ cleared b = with_holding b nothing_held
 abbrev pub owns : SessionNumber → Bridge → Bool
 owns s b = eqb b.owner.0 s.0
 
--- a bridge of zeros, with these needs
-abbrev pub zero_bridge : (needs : List ℕ) → Bridge
-zero_bridge needs = record {
-  base = 0;
-  permitted = 0;
-  held = 0;
-  supported = 0;
-  segment = 0;
-  owner = record { 0 = 0 };
-  first_bus = 0;
-  last_bus = 0;
-  edition = 0;
-  needs = needs;
-}
-
 -- what a reading past the end of the table's array would give; no call's answer rests on it
 abbrev pub no_bridge : Bridge
-no_bridge = zero_bridge []
+no_bridge = record { base = 0; permitted = 0; held = 0; supported = 0; segment = 0; owner = record { 0 = 0 }; first_bus = 0; last_bus = 0; edition = 0 }
 
 -- what stands where the table has no bridge
 abbrev pub unused : Bridge
-unused = zero_bridge (replicate most_controls 0)
+unused = record { base = 0; permitted = 0; held = 0; supported = 0; segment = 0; owner = record { 0 = 0 }; first_bus = 0; last_bus = 0; edition = 0 }
 
 -- a table of its parts
 abbrev pub table_with : (bridges : List Bridge) (count : ℕ) → Table

@@ -5,11 +5,6 @@ pub mod constants;
 // The most bridges that a table holds; `max_rows` in specs/Limits.
 pub const MAX_ROWS: usize = 64;
 
-// The bits of the control field, and how many an edition knows at most; `most_controls` in specs/Editions.
-pub const CONTROL_BITS: usize = 32;
-
-pub const KNOWN_CONTROL_BITS: usize = 10;
-
 #[repr(C)]
 #[derive(Drop)]
 pub struct SessionNumber(pub u8);
@@ -18,8 +13,7 @@ pub struct SessionNumber(pub u8);
 #[derive(Drop)]
 pub struct BridgeNumber(pub u8);
 
-// A row of the starting list; its kind is 0, Express, or 1, conventional; its edition of the control field 0, the old one, or 1, 3.3;
-// for control bit i the support bits of needs[i] must be declared.
+// A row of the starting list; its kind is 0, Express, or 1, conventional; its edition of the control field 0, the old one, or 1, 3.3.
 #[repr(C)]
 #[derive(Drop)]
 pub struct BridgeRow {
@@ -30,10 +24,9 @@ pub struct BridgeRow {
     pub last_bus: u8,
     pub kind: u8,
     pub edition: u8,
-    pub needs: [u32; CONTROL_BITS],
 }
 
-// What the table keeps of a host bridge; of its row's needs, those of the control bits that an edition knows.
+// What the table keeps of a host bridge.
 #[repr(C)]
 #[derive(Drop)]
 pub struct Bridge {
@@ -46,7 +39,6 @@ pub struct Bridge {
     pub first_bus: u8,
     pub last_bus: u8,
     pub edition: u8,
-    pub needs: [u16; KNOWN_CONTROL_BITS],
 }
 
 // Bridges 0 to count - 1 stand first; the rest of the array is unused.

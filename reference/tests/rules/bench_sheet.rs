@@ -1,7 +1,7 @@
 //! Every line of document 01's bench sheet, and the value that document 02, f, works out.
 
 use crate::build::*;
-use reference::{Masks, Refusal, find_record};
+use reference::{Masks, Refusal, find_record, granted};
 
 /// One granting line: P, H, R, then G, status and the held bits after.
 fn granting(permitted: u32, held_before: u32, requested: u32, expect: (u32, u32, u32)) {
@@ -9,7 +9,7 @@ fn granting(permitted: u32, held_before: u32, requested: u32, expect: (u32, u32,
     let [status, support, control] = osc(&mut table, 0, 0x1F, requested);
     assert_eq!((control, status, held(&table)), expect);
     assert_eq!(support, 0x1F);
-    let by_rule = granted_by_edition(OLD, permitted, held_before, 0, 0x1F, requested);
+    let by_rule = granted(OLD, permitted, held_before, 0, 0x1F, requested);
     assert_eq!(by_rule, expect.0);
 }
 

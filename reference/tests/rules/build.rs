@@ -1,6 +1,6 @@
 //! Inputs for the tests, built byte by byte.
 
-use reference::{BridgeNumber, BridgeRow, Holding, Refusal, SessionNumber, Table, granted};
+use reference::{BridgeNumber, BridgeRow, Refusal, SessionNumber, Table};
 
 /// The session that owns the bridges of these tests.
 pub const OWNER: SessionNumber = SessionNumber(3);
@@ -62,7 +62,6 @@ pub fn row(first_bus: u8, last_bus: u8, permitted: u32) -> BridgeRow {
         kind: EXPRESS,
         permitted,
         edition: OLD,
-        needs: [0; 32],
     }
 }
 
@@ -72,12 +71,6 @@ pub fn row_3_3(first_bus: u8, last_bus: u8, permitted: u32) -> BridgeRow {
         edition: EDITION_3_3,
         ..row(first_bus, last_bus, permitted)
     }
-}
-
-/// The row with these support bits for this control bit.
-pub fn needing(mut row: BridgeRow, control_bit: usize, support: u32) -> BridgeRow {
-    row.needs[control_bit] = support;
-    row
 }
 
 /// Starts with these entries and rows.
@@ -101,26 +94,6 @@ pub fn holding(permitted: u32, held: u32) -> Table {
     let [_, _, granted] = osc(&mut table, 0, 0, held);
     assert_eq!(granted, held);
     table
-}
-
-/// What is granted where the row gives no needs.
-pub fn granted_by_edition(
-    edition: u8,
-    permitted: u32,
-    held: u32,
-    supported: u32,
-    support: u32,
-    requested: u32,
-) -> u32 {
-    granted(
-        edition, permitted, held, supported, support, requested, &[0; 10],
-    )
-}
-
-/// What a bridge of the owner holds: its held and its supported bits.
-pub fn holds(table: &Table, bridge: BridgeNumber) -> (u32, u32) {
-    let Holding { held, supported } = table.report(OWNER, bridge).unwrap();
-    (held, supported)
 }
 
 /// The held bits of the first bridge.

@@ -1,7 +1,13 @@
 //! Document 02, d: edition 3.3 of the control field beside the old one.
 
 use crate::build::*;
-use reference::{BridgeNumber, BridgeRow, Table, granted};
+use reference::{BridgeNumber, BridgeRow, Holding, Table, granted};
+
+/// What a bridge of the owner holds: its held and its supported bits.
+fn holds(table: &Table, bridge: BridgeNumber) -> (u32, u32) {
+    let Holding { held, supported } = table.report(OWNER, bridge).unwrap();
+    (held, supported)
+}
 
 /// A taking call on a bridge of edition 3.3 that permits all bits and holds none: S and R, then G and status.
 fn taking(support: u32, requested: u32, (expect, status): (u32, u32)) {
@@ -9,7 +15,7 @@ fn taking(support: u32, requested: u32, (expect, status): (u32, u32)) {
     let answer = osc(&mut table, 0, support, requested);
     assert_eq!(answer, [status, support, expect], "R {requested:#x}");
     assert_eq!(holds(&table, BRIDGE), (expect, support & 0x1FF));
-    let by_rule = granted_by_edition(EDITION_3_3, 0x3FF, 0, 0, support, requested);
+    let by_rule = granted(EDITION_3_3, 0x3FF, 0, 0, support, requested);
     assert_eq!(by_rule, expect);
 }
 
@@ -53,9 +59,7 @@ fn each_bit_without_one_of_its_needs() {
 /// comes to.
 #[test]
 fn the_needs_of_bits_3_and_7_apart() {
-    let rule = |held, support, requested| {
-        granted_by_edition(EDITION_3_3, 0x3FF, held, 0, support, requested)
-    };
+    let rule = |held, support, requested| granted(EDITION_3_3, 0x3FF, held, 0, support, requested);
     // Bit 3 with bit 7 held: bit 4 and bit 7 are still asked for together with it, the support bit is not needed.
     assert_eq!(rule(0x80, 0, 0x98), 0x98);
     assert_eq!(rule(0x80, 0, 0x88), 0x80);
@@ -86,14 +90,8 @@ fn permitted_0x1f() {
     let mut table = one_bridge_3_3(0x1F);
     assert_eq!(osc(&mut table, 0, 0x1FF, 0x1F), [0x10, 0x1FF, 0x17]);
     assert_eq!(holds(&table, BRIDGE), (0x17, 0x1FF));
-    assert_eq!(
-        granted_by_edition(EDITION_3_3, 0x1F, 0, 0, 0x1FF, 0x1F),
-        0x17
-    );
-    assert_eq!(
-        granted_by_edition(EDITION_3_3, 0x1F, 0, 0, 0x1FF, 0x3FF),
-        0x17
-    );
+    assert_eq!(granted(EDITION_3_3, 0x1F, 0, 0, 0x1FF, 0x1F), 0x17);
+    assert_eq!(granted(EDITION_3_3, 0x1F, 0, 0, 0x1FF, 0x3FF), 0x17);
 }
 
 /// All bits asked for and supported, one of them not permitted.
@@ -123,24 +121,15 @@ fn held_bits_need_nothing() {
     assert_eq!(osc(&mut table, 0, 0x80, 0x98), [0, 0x80, 0x98]);
     assert_eq!(osc(&mut table, 0, 0, 0x08), [0, 0, 0x08]);
     assert_eq!(holds(&table, BRIDGE), (0x98, 0x80));
-    assert_eq!(
-        granted_by_edition(EDITION_3_3, 0x3FF, 0x98, 0, 0, 0x08),
-        0x08
-    );
+    assert_eq!(granted(EDITION_3_3, 0x3FF, 0x98, 0, 0, 0x08), 0x08);
     assert_eq!(osc(&mut table, 0, 0x100, 0x3FF), [0, 0x100, 0x3FF]);
     assert_eq!(holds(&table, BRIDGE), (0x3FF, 0x180));
     for bit in 0..10 {
         let alone = 1 << bit;
         assert_eq!(osc(&mut table, 0, 0, alone), [0, 0, alone]);
-        assert_eq!(
-            granted_by_edition(EDITION_3_3, 0, alone, 0, 0, alone),
-            alone
-        );
+        assert_eq!(granted(EDITION_3_3, 0, alone, 0, 0, alone), alone);
         // Nor is a held bit granted that is not asked for.
-        assert_eq!(
-            granted_by_edition(EDITION_3_3, 0, 0x3FF, 0, 0, alone),
-            alone
-        );
+        assert_eq!(granted(EDITION_3_3, 0, 0x3FF, 0, 0, alone), alone);
     }
     assert_eq!(holds(&table, BRIDGE), (0x3FF, 0x180));
 }
@@ -176,10 +165,7 @@ fn support_of_an_earlier_call_counts_until_reset() {
     assert_eq!(holds(&table, BRIDGE), (0, 0));
     assert_eq!(osc(&mut table, 0, 0x01, 0x98), [0x10, 0x01, 0x10]);
     assert_eq!(holds(&table, BRIDGE), (0x10, 0x01));
-    assert_eq!(
-        granted_by_edition(EDITION_3_3, 0x3FF, 0, 0x80, 0, 0x98),
-        0x98
-    );
+    assert_eq!(granted(EDITION_3_3, 0x3FF, 0, 0x80, 0, 0x98), 0x98);
 }
 
 #[test]
@@ -216,8 +202,8 @@ fn unknown_control_bits() {
     taking(0x1FF, !0, (0x3FF, 0x10));
     taking(0, 0x8000_0010, (0x10, 0x10));
     // Bits 5 to 9 are not known in the old edition, whatever is said to be permitted or held.
-    assert_eq!(granted_by_edition(OLD, !0, !0, !0, !0, !0), 0x1F);
-    assert_eq!(granted_by_edition(EDITION_3_3, !0, !0, !0, !0, !0), 0x3FF);
+    assert_eq!(granted(OLD, !0, !0, !0, !0, !0), 0x1F);
+    assert_eq!(granted(EDITION_3_3, !0, !0, !0, !0, !0), 0x3FF);
 }
 
 #[test]
@@ -371,35 +357,9 @@ fn allowed(
         })
 }
 
-/// All subsets of five bits tried: the granted set is allowed, and every allowed set lies within it. `needs` are those of the row, which
-/// the list has too, and `supports` what is supported and what the call declares.
-pub fn largest_of_all_subsets(
-    edition: u8,
-    listed: [(u32, u32, u32); 5],
-    needs: &[u16; 10],
-    supports: &[(u32, u32)],
-) {
-    let places = listed.map(|(bit, _, _)| bit);
-    let subsets: Vec<u32> = (0..32).map(|small| spread(places, small)).collect();
-    for bits in 0..1 << 15 {
-        let [permitted, held, requested] =
-            [bits & 31, bits >> 5 & 31, bits >> 10].map(|small| subsets[small]);
-        for &(supported, support) in supports {
-            let inputs = [permitted, held, requested, (supported | support) & 0x1FF];
-            let set = granted(
-                edition, permitted, held, supported, support, requested, needs,
-            );
-            assert!(allowed(&listed, inputs, set), "{inputs:x?}");
-            for &other in &subsets {
-                let within = other & !set == 0;
-                assert!(within || !allowed(&listed, inputs, other), "{inputs:x?}");
-            }
-        }
-    }
-}
-
+/// All subsets tried: the granted set is allowed, and every allowed set lies within it.
 #[test]
-fn largest_by_the_edition() {
+fn largest_of_all_subsets() {
     let new = [
         (0, 0x10, 0),
         (3, 0x90, 0),
@@ -414,9 +374,23 @@ fn largest_by_the_edition() {
         (3, 0x10, 0),
         (4, 0, 0),
     ];
-    let supports = [(0, 0), (0x80, 0), (0, 0x80), (0, !0x80)];
-    largest_of_all_subsets(EDITION_3_3, new, &[0; 10], &supports);
-    largest_of_all_subsets(OLD, old, &[0; 10], &supports);
+    for (edition, listed) in [(EDITION_3_3, new), (OLD, old)] {
+        let places = listed.map(|(bit, _, _)| bit);
+        let subsets: Vec<u32> = (0..32).map(|small| spread(places, small)).collect();
+        for bits in 0..1 << 15 {
+            let [permitted, held, requested] =
+                [bits & 31, bits >> 5 & 31, bits >> 10].map(|small| subsets[small]);
+            for (supported, support) in [(0, 0), (0x80, 0), (0, 0x80), (0, !0x80)] {
+                let inputs = [permitted, held, requested, (supported | support) & 0x1FF];
+                let set = granted(edition, permitted, held, supported, support, requested);
+                assert!(allowed(&listed, inputs, set), "{inputs:x?}");
+                for &other in &subsets {
+                    let within = other & !set == 0;
+                    assert!(within || !allowed(&listed, inputs, other), "{inputs:x?}");
+                }
+            }
+        }
+    }
 }
 
 /// Register values ask for bits 0 and 3 in either edition.

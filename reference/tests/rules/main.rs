@@ -1,12 +1,10 @@
-//! Document 01, and of document 02 the ROM, a, edition 3.3, d, the writer, g, the masks, h, and the needs of a row, i, on single inputs,
-//! through the public calls.
+//! Document 01, and of document 02 the ROM, a, edition 3.3, d, the writer, g, and the masks, h, on single inputs, through the public calls.
 
 mod bench_sheet;
 mod build;
 mod edition_rules;
 mod errors_seen;
 mod mask_rules;
-mod needs_rules;
 mod osc_rules;
 mod place_rules;
 mod record_rules;

@@ -1,7 +1,7 @@
 //! _OSC framing, statuses and granting.
 
 use crate::build::*;
-use reference::{Holding, Refusal, SessionNumber, Table};
+use reference::{Holding, Refusal, SessionNumber, Table, granted};
 
 /// Calls with this Count and these lengths; the answer buffer is full or, when refused, untouched.
 fn framing(count: u32, uuid: usize, capabilities: usize, answer: usize) -> Result<(), Refusal> {
@@ -88,13 +88,13 @@ fn granting_rule() {
     for bits in 0..1 << 15 {
         let [p, h, r] = [bits & 31, bits >> 5 & 31, bits >> 10];
         for support in [0, !0] {
-            let by_rule = |requested| granted_by_edition(OLD, p, h, support, support, requested);
+            let by_rule = |requested| granted(OLD, p, h, support, support, requested);
             assert_eq!(by_rule(r), worded(p, h, r));
             assert_eq!(by_rule(r | !31), worded(p, h, r));
         }
         // A number that is no edition.
         for edition in [2, 255] {
-            assert_eq!(granted_by_edition(edition, p, h, 0, !0, r), worded(p, h, r));
+            assert_eq!(granted(edition, p, h, 0, !0, r), worded(p, h, r));
         }
     }
 }

@@ -43,7 +43,6 @@ fn start_6_then_7() {
         ..row(0, 1, 0)
     };
     let bad_bits = [row(0, 1, 0x20), row_3_3(0, 1, 0x400)];
-    let bad_needs = [needing(row(0, 1, 0), 0, 0x20), needing(row(0, 1, 0), 5, 1)];
     for bad_row in [
         bad_buses,
         bad_kind,
@@ -51,8 +50,6 @@ fn start_6_then_7() {
         bad_edition(255),
         bad_bits[0],
         bad_bits[1],
-        bad_needs[0],
-        bad_needs[1],
     ] {
         let refused = Table::start(&bad_mcfg, &[bad_row]);
         assert_eq!(refused.err(), Some(Refusal::Mcfg));
