@@ -1,5 +1,7 @@
 // The bench sheet of document 01, line by line in its order, through the calls; its fourth line as document 02, b, has it, its numbers of rows as e has them, its AND/OR line as a
 // fact of the formula, beside the number that h gives, and at the end as many entries and the register value that f works out. P permitted, H held, R requested, G granted.
+#![tactic(auto)]
+
 ghost use Rattle.std.specs.Prelude.{◌<◌, ◌≤◌};
 ghost use Rattle.rules.specs.Start.{Sound};
 

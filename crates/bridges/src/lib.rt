@@ -1,5 +1,7 @@
 // The calls on the whole table, by value: each is the call on one bridge, with the bridge stored back. The index stays inside the array; the call on the bridge refuses a bridge
 // that the table has not.
+#![tactic(auto)]
+
 ghost use Rattle.std.specs.Prelude.{◌≡◌, [], ◌∷◌};
 ghost use Rattle.rules.specs.Start.{Sound};
 ghost use Rattle.rules.specs.Calls.{
@@ -22,7 +24,7 @@ ghost use Rattle.rules.specs.Calls.{
 use rules::{Addressed, BridgeNumber, Located, Reported, SessionNumber, Table, Values};
 
 // A number, and the table after the call.
-#[derive(Drop)]
+#[derive(Clone, Copy)]
 pub struct TableDone {
     pub number: u8,
     pub table: Table,

@@ -1,4 +1,6 @@
 // The byte sums by themselves, for Rust to call: the trials compare them, the timings time them. No part of the service's boundary.
+#![tactic(auto)]
+
 ghost use Rattle.std.specs.Prelude.{◌≡◌, ◌%◌};
 ghost use Rattle.rules.specs.Numbers.{sum};
 

@@ -1,4 +1,6 @@
 // ECAM configuration addresses of one host bridge: a place to its address and back. A place is asked for by u32 numbers: one that is too large is refused, never cut.
+#![tactic(auto)]
+
 ghost use Rattle.std.specs.Prelude.{◌≡◌, ◌%◌, true, not, ◌||◌, ◌==◌};
 ghost use Rattle.ecam.specs.Fits.{PlaceFits};
 ghost use Rattle.rules.specs.Place.{address_of, place_bad, bus_outside, in_window, place_of};
@@ -46,7 +48,7 @@ pub fn address_of(b: Bridge, bus: u32, device: u32, function: u32, offset: u32) 
 pub fn in_window(b: Bridge, address: u64) -> bool
     ensures { result ≡ in_window address b }
 {
-    let bus = std::num::wrapping_sub_u64(address, b.base) / BUS_BYTES;
+    let bus = address.wrapping_sub(b.base) / BUS_BYTES;
     (b.base <= address) & ((b.first_bus as u64) <= bus) & (bus <= (b.last_bus as u64))
 }
 

@@ -1,4 +1,6 @@
 // The limits of _OSC by the edition of the control field, document 02, d.
+#![tactic(auto)]
+
 ghost use Rattle.rules.specs.Start.{Sound};
 
 use rules::constants::{EDITION_3_3, EXPRESS};

@@ -1,4 +1,6 @@
 // _HPX setting records: which block decides, the record search, the new register values.
+#![tactic(auto)]
+
 ghost use Rattle.std.specs.Prelude.{◌≡◌, false, ◌+◌, ◌<◌, ◌≤◌, length, get_or};
 ghost use Rattle.rules.specs.Records.{field_at, deciding, record_in, record_refusals, find_record, deciding_at, registers_bad, and_or, sizes_kept, new_value, new_values};
 ghost use Rattle.rules.specs.Parts.{part, part_at};

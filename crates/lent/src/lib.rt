@@ -1,1 +1,2 @@
 // No function: proofs/ has the walks of calls on one bridge of a lent table.
+#![tactic(auto)]

@@ -1,4 +1,6 @@
 // The lent rows of a starting list, judged where they stand.
+#![tactic(auto)]
+
 ghost use Rattle.std.specs.Prelude.{◌≡◌, ◌≤◌, length, take};
 ghost use Rattle.rules.specs.Lists.{every};
 ghost use Rattle.rules.specs.Start.{rows_apart};

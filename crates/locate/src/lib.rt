@@ -1,4 +1,6 @@
 // Reading an address back, bridge by bridge: a loop of `seek` over the bridges of a table finds the place, whether the table is a value or lent.
+#![tactic(auto)]
+
 ghost use Rattle.std.specs.Prelude.{◌≡◌, ◌≤◌, ◌<◌};
 ghost use Rattle.rules.specs.Limits.{max_rows};
 ghost use Rattle.locate.specs.Turns.{at_first, after_bridge};
@@ -6,7 +8,7 @@ ghost use Rattle.locate.specs.Turns.{at_first, after_bridge};
 use rules::{Bridge, BridgeNumber, Located, Place, SessionNumber};
 
 // The bridge to look at next, and what was found so far.
-#[derive(Drop)]
+#[derive(Clone, Copy)]
 pub struct Search {
     pub next: usize,
     pub found: Located,

@@ -1,4 +1,6 @@
 // The MCFG table: whether it is sound, its entries, and the entry that a row of the starting list lies inside.
+#![tactic(auto)]
+
 ghost use Rattle.std.specs.Prelude.{◌≡◌, true, not, ◌&&◌, suc, ◌+◌, ◌*◌, ◌≤◌, length};
 ghost use Rattle.rules.specs.Lists.{every, pairwise, is_none};
 ghost use Rattle.rules.specs.Mcfg.{entries, entry_at, bus_start, bus_end, entry_sound, share_no_bus, share_no_byte, mcfg_sound};
@@ -209,7 +211,7 @@ fn lies_inside(row: BridgeRow, e: Entry) -> bool
 }
 
 // Whether a row lies inside an entry, and the base of that entry, else 0.
-#[derive(Drop)]
+#[derive(Clone, Copy)]
 pub struct Inside {
     pub found: bool,
     pub base: u64,

@@ -1,5 +1,7 @@
 // Each call on one bridge of the table, by value: the number of bridges and the bridge named go in, the answer and the bridge come out. Every refusal of a call is
 // given by its function here; 8 and 9 are found by hpx.
+#![tactic(auto)]
+
 ghost use Rattle.std.specs.Prelude.{◌≡◌, [], ◌∷◌, not, ◌%◌, eqb};
 ghost use Rattle.std.specs.Int.Bits.{bit_and};
 ghost use Rattle.rules.specs.Limits.{max_rows};
@@ -35,7 +37,7 @@ const AER: u32 = 0x08;
 
 // A number, and the bridge after the call.
 #[repr(C)]
-#[derive(Drop)]
+#[derive(Clone, Copy)]
 pub struct BridgeDone {
     pub number: u8,
     pub bridge: Bridge,

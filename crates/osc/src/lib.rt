@@ -1,4 +1,6 @@
 // _OSC: framing, the granting rule by masks, the answer buffer, what a taking call adds.
+#![tactic(auto)]
+
 ghost use Rattle.std.specs.Prelude.{◌≡◌, true, false, cond, ◌++◌, ℕ, ◌-◌, ◌%◌, ◌≤◌, length, replicate};
 ghost use Rattle.osc.specs.Granted.{granted_answer};
 ghost use Rattle.osc.specs.Needs.{needs_met, supports_met};

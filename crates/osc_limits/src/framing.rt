@@ -88,7 +88,7 @@ fn uuid_but(at: usize) -> [u8; 16]
     requires { at ≤ 15 }
 {
     let mut uuid = fixtures::UUID;
-    uuid[at] = std::num::wrapping_add_u8(uuid[at], 1);
+    uuid[at] = uuid[at].wrapping_add(1);
     uuid
 }
 

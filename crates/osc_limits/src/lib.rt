@@ -1,4 +1,6 @@
 // The limits of _OSC, reset and report. fixtures::three_bridges says whose bridges there are.
+#![tactic(auto)]
+
 ghost use Rattle.rules.specs.Start.{Sound};
 
 use rules::{BridgeNumber, SessionNumber, Table};

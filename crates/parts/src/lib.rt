@@ -1,4 +1,6 @@
 // What a search of lent bytes gives: a part of them, or the empty part beside a refusal.
+#![tactic(auto)]
+
 ghost use Rattle.std.specs.Prelude.{◌≡◌, ◌+◌, ◌≤◌, length};
 ghost use Rattle.rules.specs.Parts.{refused, part, part_at};
 

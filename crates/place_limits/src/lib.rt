@@ -1,4 +1,6 @@
 // The limits of a place and its address, and of an address read back. fixtures::three_bridges says whose bridges there are.
+#![tactic(auto)]
+
 ghost use Rattle.rules.specs.Start.{Sound};
 
 use rules::{BridgeNumber, SessionNumber, Table};

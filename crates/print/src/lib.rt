@@ -1,4 +1,5 @@
 // What the programs' lines are made of, written to standard output.
+#![tactic(auto)]
 
 pub fn text(b: &[u8]) {
     io::write_all(1, b);

@@ -1,4 +1,6 @@
 // The ranges of setting records and their AND/OR pairs, once for the record search and for the writer.
+#![tactic(auto)]
+
 ghost use Rattle.std.specs.Prelude.{◌≡◌, get_or};
 ghost use Rattle.rules.specs.Records.{meaningful, in_ranges};
 ghost use Rattle.rules.specs.Writer.{pci_numbers, pci_xNumbers, express_numbers};

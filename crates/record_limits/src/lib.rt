@@ -1,4 +1,5 @@
 // The limits of record blocks, the record search and register values.
+#![tactic(auto)]
 
 mod blocks;
 mod registers;

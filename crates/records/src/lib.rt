@@ -1,4 +1,6 @@
 // Record blocks: their fields, and the search of one block for a record.
+#![tactic(auto)]
+
 ghost use Rattle.std.specs.Prelude.{◌≡◌, ◌&&◌, [], ◌+◌, ◌^◌, ◌<◌, ◌≤◌, eqb, ltb, length};
 ghost use Rattle.rules.specs.Limits.{max_block};
 ghost use Rattle.rules.specs.Records.{value, is_record, record_size, and_mask, or_mask, in_ranges, field_sound, find_record};
@@ -9,7 +11,7 @@ use rules::constants::MAX_BLOCK;
 use rules::{ExpressSetting, Field, FoundAt, Masks, PciSetting, PciXSetting};
 
 // A field taken apart, or the end of the walk, which is refusal 8.
-#[derive(Drop)]
+#[derive(Clone, Copy)]
 pub enum FieldRead {
     Whole(Field),
     End,
@@ -116,7 +118,7 @@ fn record_sound(b: &[u8], f: Field) -> bool
 }
 
 // What a field is: skipped, a sound revision 1 record, or a broken rule, which is refusal 8.
-#[derive(Drop)]
+#[derive(Clone, Copy)]
 pub enum Judged {
     Skip,
     Record,
@@ -146,7 +148,7 @@ fn judge(b: &[u8], f: Field) -> Judged
 }
 
 // Which types have had their record.
-#[derive(Drop)]
+#[derive(Clone, Copy)]
 pub struct Seen {
     pub type_0: bool,
     pub type_1: bool,

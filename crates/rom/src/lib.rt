@@ -1,4 +1,6 @@
 // Expansion ROMs: an image taken apart, the search of the chain of images, the image as a part of the ROM.
+#![tactic(auto)]
+
 ghost use Rattle.std.specs.Prelude.{◌≡◌, ◌||◌, ◌+◌, ◌≤◌, ltb, length};
 ghost use Rattle.rules.specs.Limits.{max_rom};
 ghost use Rattle.rules.specs.Parts.{part, part_at};
@@ -14,7 +16,7 @@ const SIGNATURE: u16 = 0xaa55;
 const STRUCTURE: [u8; 4] = *b"PCIR";
 
 // An image taken apart, or a broken chain, which is refusal 12.
-#[derive(Drop)]
+#[derive(Clone, Copy)]
 pub enum ImageRead {
     Sound(Image),
     Broken,

@@ -1,4 +1,6 @@
 // The limits of the image search: document 02, a.
+#![tactic(auto)]
+
 ghost use Rattle.std.specs.Prelude.{◌<◌, ◌≤◌, length as List·length};
 
 use fixtures::ROM_ROOM;

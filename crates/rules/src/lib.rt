@@ -1,4 +1,5 @@
 // The declared types. What the calls mean is in specs/, what follows from it in proofs/.
+#![tactic(auto)]
 
 pub mod constants;
 
@@ -6,16 +7,16 @@ pub mod constants;
 pub const MAX_ROWS: usize = 64;
 
 #[repr(C)]
-#[derive(Drop)]
+#[derive(Clone, Copy)]
 pub struct SessionNumber(pub u8);
 
 #[repr(C)]
-#[derive(Drop)]
+#[derive(Clone, Copy)]
 pub struct BridgeNumber(pub u8);
 
 // A row of the starting list; its kind is 0, Express, or 1, conventional; its edition of the control field 0, the old one, or 1, 3.3.
 #[repr(C)]
-#[derive(Drop)]
+#[derive(Clone, Copy)]
 pub struct BridgeRow {
     pub permitted: u32,
     pub segment: u16,
@@ -28,7 +29,7 @@ pub struct BridgeRow {
 
 // What the table keeps of a host bridge.
 #[repr(C)]
-#[derive(Drop)]
+#[derive(Clone, Copy)]
 pub struct Bridge {
     pub base: u64,
     pub permitted: u32,
@@ -43,7 +44,7 @@ pub struct Bridge {
 
 // Bridges 0 to count - 1 stand first; the rest of the array is unused.
 #[repr(C)]
-#[derive(Drop)]
+#[derive(Clone, Copy)]
 pub struct Table {
     pub bridges: [Bridge; MAX_ROWS],
     pub count: usize,
@@ -51,14 +52,14 @@ pub struct Table {
 
 // "What a bridge holds is its held and its supported bits in the table."
 #[repr(C)]
-#[derive(Drop)]
+#[derive(Clone, Copy)]
 pub struct Holding {
     pub held: u32,
     pub supported: u32,
 }
 
 // An entry of the MCFG table: its base belongs to bus 0.
-#[derive(Drop)]
+#[derive(Clone, Copy)]
 pub struct Entry {
     pub base: u64,
     pub segment: u16,
@@ -68,7 +69,7 @@ pub struct Entry {
 
 // A place: "bridge, bus, device, function and offset".
 #[repr(C)]
-#[derive(Drop)]
+#[derive(Clone, Copy)]
 pub struct Place {
     pub bridge: BridgeNumber,
     pub bus: u8,
@@ -78,7 +79,7 @@ pub struct Place {
 }
 
 // A field of a record block: where it starts, its tag (the record type) and the length of its value.
-#[derive(Drop)]
+#[derive(Clone, Copy)]
 pub struct Field {
     pub start: usize,
     pub tag: u8,
@@ -86,7 +87,7 @@ pub struct Field {
 }
 
 // An image of an expansion ROM: where it starts, where its PCI Data Structure does, and its length.
-#[derive(Drop)]
+#[derive(Clone, Copy)]
 pub struct Image {
     pub start: usize,
     pub structure: usize,
@@ -97,7 +98,7 @@ pub struct Image {
 
 // Type 0, a PCI setting record (002, table 6-7).
 #[repr(C)]
-#[derive(Drop)]
+#[derive(Clone, Copy)]
 pub struct PciSetting {
     pub cache_line_size: u32,
     pub latency_timer: u32,
@@ -107,7 +108,7 @@ pub struct PciSetting {
 
 // Type 1, a PCI-X setting record (002, table 6-8).
 #[repr(C)]
-#[derive(Drop)]
+#[derive(Clone, Copy)]
 pub struct PciXSetting {
     pub maximum_memory_read_byte_count: u32,
     pub average_maximum_outstanding_split_transactions: u32,
@@ -116,7 +117,7 @@ pub struct PciXSetting {
 
 // A register's AND mask and OR mask.
 #[repr(C)]
-#[derive(Drop)]
+#[derive(Clone, Copy)]
 pub struct Masks {
     pub and: u32,
     pub or: u32,
@@ -124,7 +125,7 @@ pub struct Masks {
 
 // Type 2, a PCI Express setting record (002, table 6-9).
 #[repr(C)]
-#[derive(Drop)]
+#[derive(Clone, Copy)]
 pub struct ExpressSetting {
     pub uncorrectable_error_mask: Masks,
     pub uncorrectable_error_severity: Masks,
@@ -138,7 +139,7 @@ pub struct ExpressSetting {
 
 // At most one record of each known type: any number but 0 says that it is present; the values of one that is not count for nothing.
 #[repr(C)]
-#[derive(Drop)]
+#[derive(Clone, Copy)]
 pub struct Settings {
     pub express: ExpressSetting,
     pub pci: PciSetting,
@@ -150,7 +151,7 @@ pub struct Settings {
 
 // What a search of lent bytes gives, the record search and the image search: its number, and where the part of them starts and its length, header included.
 #[repr(C)]
-#[derive(Drop)]
+#[derive(Clone, Copy)]
 pub struct FoundAt {
     pub number: u8,
     pub start: usize,
@@ -161,21 +162,21 @@ pub struct FoundAt {
 
 // Start's: the table stands first, so that nothing but its bridges is copied when it is handed back.
 #[repr(C)]
-#[derive(Drop)]
+#[derive(Clone, Copy)]
 pub struct Started {
     pub table: Table,
     pub number: u8,
 }
 
 #[repr(C)]
-#[derive(Drop)]
+#[derive(Clone, Copy)]
 pub struct Reported {
     pub number: u8,
     pub holding: Holding,
 }
 
 #[repr(C)]
-#[derive(Drop)]
+#[derive(Clone, Copy)]
 pub struct Addressed {
     pub number: u8,
     pub address: u64,
@@ -183,14 +184,14 @@ pub struct Addressed {
 
 // Locate's, the place of an address.
 #[repr(C)]
-#[derive(Drop)]
+#[derive(Clone, Copy)]
 pub struct Located {
     pub number: u8,
     pub place: Place,
 }
 
 // A search's, with the part of the deciding block or of the ROM, which is empty when refused.
-#[derive(Drop)]
+#[derive(Clone, Copy)]
 pub struct Found<'a> {
     pub number: u8,
     pub part: &'a [u8],
@@ -198,7 +199,7 @@ pub struct Found<'a> {
 
 // The record search's as it crosses to C: whether the record lies in the slot's block, where it starts there and its length, header included.
 #[repr(C)]
-#[derive(Drop)]
+#[derive(Clone, Copy)]
 pub struct RecordAt {
     pub number: u8,
     pub in_slot: bool,
@@ -208,7 +209,7 @@ pub struct RecordAt {
 
 // The eight new register values.
 #[repr(C)]
-#[derive(Drop)]
+#[derive(Clone, Copy)]
 pub struct Values {
     pub number: u8,
     pub values: [u32; 8],
@@ -216,7 +217,7 @@ pub struct Values {
 
 // The writer's: how many bytes at the start of the buffer are the block.
 #[repr(C)]
-#[derive(Drop)]
+#[derive(Clone, Copy)]
 pub struct Written {
     pub number: u8,
     pub length: usize,

@@ -1,4 +1,6 @@
 // The table of a lent MCFG table and the rows of a starting list.
+#![tactic(auto)]
+
 ghost use Rattle.std.specs.Prelude.{◌≡◌, cond, ◌&&◌, eqb};
 ghost use Rattle.rules.specs.Mcfg.{entries};
 ghost use Rattle.rules.specs.Tables.{unused, table_with};
@@ -61,7 +63,7 @@ pub fn rows_apart(q: BridgeRow, row: BridgeRow) -> bool
 
 // A row judged: 0 and its bridge, or 7 and no bridge.
 #[repr(C)]
-#[derive(Drop)]
+#[derive(Clone, Copy)]
 pub struct Admitted {
     pub number: u8,
     pub bridge: Bridge,
@@ -137,7 +139,7 @@ pub fn if_done(number: u8, done: usize, refused: usize) -> usize
 
 // Rows judged: 0, their bridges in the array of a table, and how many; or a refusal, and no bridge.
 #[repr(C)]
-#[derive(Drop)]
+#[derive(Clone, Copy)]
 pub struct Judged {
     pub bridges: [Bridge; rules::MAX_ROWS],
     pub count: usize,

@@ -1,4 +1,6 @@
 // Start with the rows of an array by value, for programs: the array is lent here.
+#![tactic(auto)]
+
 ghost use Rattle.std.specs.Prelude.{◌≡◌, ◌+◌, min, take};
 ghost use Rattle.rules.specs.Limits.{max_rows};
 ghost use Rattle.rules.specs.Start.{start_number, start_table};

@@ -1,4 +1,5 @@
 // The limits of start: the MCFG table and the starting list.
+#![tactic(auto)]
 
 mod mcfg_table;
 mod starting_list;

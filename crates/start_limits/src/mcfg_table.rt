@@ -29,7 +29,7 @@ fn byte(at: usize, value: u8)
 // A sound table of 60 bytes, but that the sum of all bytes is so much more than a multiple of 256.
 pub fn with_sum(more: u8) -> [u8; MCFG_ROOM] {
     let mut m = fixtures::mcfg(BASE, 0, 255, 1);
-    m[9] = std::num::wrapping_add_u8(m[9], more);
+    m[9] = m[9].wrapping_add(more);
     m
 }
 

@@ -1,5 +1,7 @@
 // The sum of bytes by itself, at every length from 0 to 64 and at the lengths of MCFG tables of 0 to 64 entries. One line for each length: how many bytes; then their sum modulo 256 if each
 // is 1, if each is 255, and if they are 1, 2, 3 and so on. Behind the bytes that are lent there are more of the same kind.
+#![tactic(auto)]
+
 ghost use Rattle.std.specs.Prelude.{◌≤◌, length as count};
 
 const ROOM: usize = 1072;

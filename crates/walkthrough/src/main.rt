@@ -1,4 +1,6 @@
 // The lesson: a class and a plant on one table of host bridges. One line for each call: plain words, then what was asked and what came.
+#![tactic(auto)]
+
 ghost use Rattle.std.specs.Prelude.{◌≤◌};
 ghost use Rattle.rules.specs.Start.{Sound};
 
@@ -125,7 +127,7 @@ fn begin() -> Table
 }
 
 // The table after an _OSC call, and the bits that it granted.
-#[derive(Drop)]
+#[derive(Clone, Copy)]
 struct Granted {
     table: Table,
     control: u32,

@@ -1,4 +1,6 @@
 // Little-endian numbers in lent buffers, byte strings compared, the byte sum.
+#![tactic(auto)]
+
 ghost use Rattle.std.specs.Prelude.{◌≡◌, ◌+◌, ◌%◌, ◌<◌, ◌≤◌, ◌++◌, length, take, drop};
 ghost use Rattle.rules.specs.Numbers.{word, dword, qword, le16, le32, sum, same_bytes};
 ghost use Rattle.words.specs.Sums.{lanes_sum};
@@ -78,14 +80,14 @@ pub fn sum_of_bytes(b: &[u8]) -> u8
     let mut total: u8 = 0;
     let mut i = 0;
     while i < b.len() {
-        total = std::num::wrapping_add_u8(total, b[i]);
+        total = total.wrapping_add(b[i]);
         i += 1;
     }
     total
 }
 
 // Eight sums, each modulo 256: one for each byte of a step.
-#[derive(Drop)]
+#[derive(Clone, Copy)]
 struct Lanes {
     l0: u8,
     l1: u8,
@@ -103,14 +105,14 @@ fn add_eight(before: Lanes, b: &[u8]) -> Lanes
     ensures { lanes_sum result % 256 ≡ (lanes_sum before + sum b.now) % 256 }
 {
     Lanes {
-        l0: std::num::wrapping_add_u8(before.l0, b[0]),
-        l1: std::num::wrapping_add_u8(before.l1, b[1]),
-        l2: std::num::wrapping_add_u8(before.l2, b[2]),
-        l3: std::num::wrapping_add_u8(before.l3, b[3]),
-        l4: std::num::wrapping_add_u8(before.l4, b[4]),
-        l5: std::num::wrapping_add_u8(before.l5, b[5]),
-        l6: std::num::wrapping_add_u8(before.l6, b[6]),
-        l7: std::num::wrapping_add_u8(before.l7, b[7]),
+        l0: before.l0.wrapping_add(b[0]),
+        l1: before.l1.wrapping_add(b[1]),
+        l2: before.l2.wrapping_add(b[2]),
+        l3: before.l3.wrapping_add(b[3]),
+        l4: before.l4.wrapping_add(b[4]),
+        l5: before.l5.wrapping_add(b[5]),
+        l6: before.l6.wrapping_add(b[6]),
+        l7: before.l7.wrapping_add(b[7]),
     }
 }
 
@@ -144,5 +146,5 @@ pub fn byte_sum(b: &[u8]) -> u8
     ensures { result ≡ sum b.now % 256 }
 {
     let eights = b.len() - b.len() % 8;
-    std::num::wrapping_add_u8(sum_of_eights(&b[..eights]), sum_of_bytes(&b[eights..]))
+    sum_of_eights(&b[..eights]).wrapping_add(sum_of_bytes(&b[eights..]))
 }

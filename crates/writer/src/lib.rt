@@ -1,4 +1,6 @@
 // The writer of record blocks: setting records checked against their ranges and laid down by rising type.
+#![tactic(auto)]
+
 ghost use Rattle.std.specs.Prelude.{◌≡◌, ◌++◌, ◌+◌, ◌*◌, ◌≤◌, length, drop};
 ghost use Rattle.rules.specs.Numbers.{dwords};
 ghost use Rattle.rules.specs.Writer.{
@@ -69,7 +71,7 @@ fn express_numbers(e: ExpressSetting) -> [u32; 17]
 }
 
 // What records come to: their bytes, headers included, or a value out of its range.
-#[derive(Drop)]
+#[derive(Clone, Copy)]
 pub enum Measured {
     Bytes(usize),
     OutOfRange,

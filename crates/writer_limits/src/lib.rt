@@ -1,4 +1,5 @@
 // The limits of the writer of record blocks: document 02, g and h.
+#![tactic(auto)]
 
 mod buffers;
 mod reading;

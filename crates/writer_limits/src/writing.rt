@@ -7,7 +7,7 @@ use rules::{Masks, Settings};
 pub const ROOM: usize = 128;
 
 // The number, the length, and the buffer.
-#[derive(Drop)]
+#[derive(Clone, Copy)]
 pub struct Left {
     pub number: u8,
     pub length: usize,
