@@ -14,7 +14,6 @@ use lib.Seq.{get_or-drop, drop-drop, drop-cons}
 use Rattle.rules.specs.Numbers.{byte, word, dword, le16, le32}
 use Rattle.rules.specs.Writer.{are_bytes}
 use Rattle.rules.proofs.Tests.{and-true}
-use Rattle.rules.proofs.BenchRuns.{example_runs}
 
 -- ---- the bytes of a number, and the number of bytes
 

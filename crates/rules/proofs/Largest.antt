@@ -1,14 +1,14 @@
 -- The granted set is the largest of the requested known bits in which each stays, whatever list of bits and needs.
 -- Assumes nothing.
-use mathlib.Core.Path.{◌≡◌, refl, sym, ap, ◌∙◌}
+use mathlib.Core.Path.{◌≡◌, sym, ap, ◌∙◌}
 use mathlib.Core.Logic.{◌⊎◌, inl, inr}
-use mathlib.Core.Bool.{Bool, true, false, ◌&&◌, ◌||◌, true≢false}
+use mathlib.Core.Bool.{true, ◌&&◌, true≢false}
 use mathlib.Core.List.{List}
 use Prim.Native.Nat.{ℕ, zero, suc, ◌+◌, ◌^◌, ◌≤◌, ◌<◌}
 use native.Mathlib.Omega.{arith}
 use native.Mathlib.Decide.{ℕ_discrete}
 use lib.ListN.{length}
-use Rattle.rules.specs.Numbers.{bit, within, number}
+use Rattle.rules.specs.Numbers.{bit, within}
 use Rattle.rules.specs.Granting.{Needs, needs_of, stays, Fits, Largest, requested_known, trim, trimmed, granted_by}
 use Rattle.rules.specs.Editions.{control_bits}
 use Rattle.rules.specs.Osc.{declared, granted}
