@@ -1,4 +1,4 @@
-// The calls of document 01 on a lent table, the record search, and of document 02 the image search (a) and the writer (g): what C and Rust link. Each call on a table works on one bridge where it stands: the call on the
+// The calls of document 01 on a lent table, the record search, and of document 02 the image search (a) and the writer (g): what C and Rust link, through crates/slipwattle_c. Each call on a table works on one bridge where it stands: the call on the
 // bridge hands it back, and what it holds, all that a call changes, is stored where the number is 0; a refused call stores nothing in the table. Some bridge is read whatever the bridge number is
 // (one_bridge::index); the call on the bridge refuses a bridge that the table has not. The proofs of these walk the code by hand.
 #![tactic(auto)]
@@ -31,17 +31,15 @@ use rules::{
 };
 
 // The table of the rows, of any number, or a refusal and no bridges.
-#[unsafe(no_mangle)]
-pub extern "C" fn slipwattle_start(mcfg: &[u8], rows: &[BridgeRow]) -> Started
-    ensures { (result.number ≡ start_number (record { mcfg = mcfg.entry.now; rows = rows.now }))
-        × (result.table ≡ start_table (record { mcfg = mcfg.entry.now; rows = rows.now })) }
+pub fn slipwattle_start(mcfg: &[u8], rows: &[BridgeRow]) -> Started
+    ensures { (result.number ≡ start_number (record { mcfg = mcfg.now; rows = rows.now }))
+        × (result.table ≡ start_table (record { mcfg = mcfg.now; rows = rows.now })) }
 {
     start::assemble(lent_rows::judge(mcfg, rows))
 }
 
 // _OSC: the answer buffer is filled, or left as it was lent.
-#[unsafe(no_mangle)]
-pub extern "C" fn slipwattle_osc(
+pub fn slipwattle_osc(
     t: &mut Table,
     s: SessionNumber,
     n: BridgeNumber,
@@ -75,8 +73,7 @@ pub extern "C" fn slipwattle_osc(
     done.number
 }
 
-#[unsafe(no_mangle)]
-pub extern "C" fn slipwattle_reset(t: &mut Table, s: SessionNumber, n: BridgeNumber) -> u8
+pub fn slipwattle_reset(t: &mut Table, s: SessionNumber, n: BridgeNumber) -> u8
     requires { Sound t.old }
     ensures { (outcome result nothing [] ≡ (step t.old (on s n reset)).outcome) × (t.new ≡ (step t.old (on s n reset)).table) }
 {
@@ -89,8 +86,7 @@ pub extern "C" fn slipwattle_reset(t: &mut Table, s: SessionNumber, n: BridgeNum
     done.number
 }
 
-#[unsafe(no_mangle)]
-pub extern "C" fn slipwattle_report(t: &mut Table, s: SessionNumber, n: BridgeNumber) -> Reported
+pub fn slipwattle_report(t: &mut Table, s: SessionNumber, n: BridgeNumber) -> Reported
     requires { Sound t.old }
     ensures { (outcome result.number (reported result.holding) [] ≡ (step t.old (on s n report)).outcome)
         × (t.new ≡ (step t.old (on s n report)).table) }
@@ -100,8 +96,7 @@ pub extern "C" fn slipwattle_report(t: &mut Table, s: SessionNumber, n: BridgeNu
 }
 
 // The numbers of a place are u32, so that device 256 is refused and not taken for device 0.
-#[unsafe(no_mangle)]
-pub extern "C" fn slipwattle_address(
+pub fn slipwattle_address(
     t: &mut Table,
     s: SessionNumber,
     n: BridgeNumber,
@@ -130,8 +125,7 @@ pub extern "C" fn slipwattle_address(
 }
 
 // The bridges are searched where they stand; locate::seek looks at one.
-#[unsafe(no_mangle)]
-pub extern "C" fn slipwattle_locate(t: &mut Table, s: SessionNumber, address: u64) -> Located
+pub fn slipwattle_locate(t: &mut Table, s: SessionNumber, address: u64) -> Located
     requires { Sound t.old }
     ensures { (outcome result.number (located result.place) [] ≡ (step t.old (locate s address)).outcome)
         × (t.new ≡ (step t.old (locate s address)).table) }
@@ -146,8 +140,7 @@ pub extern "C" fn slipwattle_locate(t: &mut Table, s: SessionNumber, address: u6
 }
 
 // The record type is u32, so that type 256 is refused and not taken for type 0.
-#[unsafe(no_mangle)]
-pub extern "C" fn slipwattle_find_record<'a>(
+pub fn slipwattle_find_record<'a>(
     slot: &'a [u8],
     block: &'a [u8],
     record_type: u32,
@@ -172,8 +165,7 @@ pub extern "C" fn slipwattle_find_record<'a>(
 }
 
 // Where the image lies in the ROM. Vendor, device and code type are u32, so that none is taken for a smaller number.
-#[unsafe(no_mangle)]
-pub extern "C" fn slipwattle_find_image(
+pub fn slipwattle_find_image(
     rom: &[u8],
     vendor: u32,
     device: u32,
@@ -185,15 +177,13 @@ pub extern "C" fn slipwattle_find_image(
 }
 
 // Setting records by value, those present laid down at the start of the buffer by rising type; the rest of it is left untouched.
-#[unsafe(no_mangle)]
-pub extern "C" fn slipwattle_write_records(settings: Settings, buffer: &mut [u8]) -> Written
+pub fn slipwattle_write_records(settings: Settings, buffer: &mut [u8]) -> Written
     ensures { (result ≡ write_records settings buffer.old) × (buffer.new ≡ buffer_after settings buffer.old) }
 {
     writer::write_records(settings, buffer)
 }
 
-#[unsafe(no_mangle)]
-pub extern "C" fn slipwattle_register_values<'a>(
+pub fn slipwattle_register_values<'a>(
     t: &mut Table,
     s: SessionNumber,
     n: BridgeNumber,
