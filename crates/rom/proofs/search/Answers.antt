@@ -55,3 +55,9 @@ loop-at-preserved c =
 
 pub returns : goal.returns
 returns c = c.refusal-2.ensures ∙ at-end _ _ _ _ c.loop-at.invariant (omega arith)
+
+pub overflow_add-at : goal.overflow_add-at
+overflow_add-at c = omega (arith, image-fits c.args.rom.now c.loop-at.at c.in-Sound.m c.in-Sound.ensures)
+
+pub loop-at-smaller : goal.loop-at-smaller
+loop-at-smaller c = omega (arith, image-fits c.args.rom.now c.loop-at.at c.in-Sound.m c.in-Sound.ensures)
