@@ -53,6 +53,7 @@ fn read_image(rom: &[u8], at: usize) -> ImageRead
 }
 
 // Whether an image is the last: bit 7 of its indicator.
+#[tactic(auto, unfolding(rules::specs::Numbers::bit))]
 fn is_last(rom: &[u8], m: Image) -> bool
     requires { 24 + m.structure ≤ length rom.now }
     ensures { result ≡ is_last rom.now m }
@@ -114,6 +115,7 @@ fn chosen(rom: &[u8], m: Image) -> FoundAt
 }
 
 // Whether a ROM is too large to be sound.
+#[tactic(auto, unfolding(rules::specs::Limits::max_rom))]
 fn too_large(rom: &[u8]) -> bool
     ensures { result ≡ ltb max_rom (length rom.now) }
 {
@@ -143,11 +145,11 @@ pub fn search<'a>(rom: &'a [u8], vendor: u32, device: u32, code_type: u32) -> Fo
     parts::refusal(12)
 }
 
-// The image search, with the image as a part of the ROM. The struct holds a reference, so the proof walks the code by hand.
+// The image search, with the image as a part of the ROM.
 pub fn find_image<'a>(rom: &'a [u8], vendor: u32, device: u32, code_type: u32) -> Found<'a>
     ensures { (result.number ≡ (find_image rom.now vendor device code_type).number)
         × (result.part.now ≡ part (find_image rom.now vendor device code_type) rom.now)
-        × (result.part.ptr ≡ part_at (find_image rom.now vendor device code_type) rom.entry.ref_ptr) }
+        × (result.part.ref_ptr ≡ part_at (find_image rom.now vendor device code_type) rom.entry.ref_ptr) }
 {
     let at = search(rom, vendor, device, code_type);
     Found {
