@@ -1,4 +1,3 @@
-pub mod Decides
 pub mod Registers
 pub mod Searches
 pub mod Sizes
