@@ -1,3 +1,4 @@
+pub mod Decides
 pub mod Registers
 pub mod Searches
 pub mod Sizes

@@ -1,13 +1,27 @@
 -- The eight new register values, one by one.
 -- Assumes nothing.
 use Prim.Native.Nat.{ℕ}
-use mathlib.Core.Path.{◌≡◌, refl}
-use mathlib.Core.Bool.{Bool}
+use mathlib.Core.Path.{◌≡◌, refl, sym}
+use mathlib.Core.Bool.{Bool, true, false, not, cond, ◌&&◌, true≢false}
 use mathlib.Core.List.{List, [], ◌∷◌}
 use native.Mathlib.Omega.{arith}
 use lib.ListN.{length, get_or}
 use Rattle.rules.specs.Records.{new_value, new_values}
 use Rattle.rules.specs.declared.Field.{Field}
+
+-- one of the six error registers, d Device Control and e Link Control, stays where AER is held
+pub stays : (aer d e : Bool) (x y z : ℕ) → (aer && not d) && not e ≡ true → cond d x (cond (aer && not e) y z) ≡ y
+stays true true e x y z q = absurd (true≢false (sym q))
+stays true false true x y z q = absurd (true≢false (sym q))
+stays true false false x y z q = refl
+stays false d e x y z q = absurd (true≢false (sym q))
+
+-- any other but Device Control is computed
+pub changes : (aer d e : Bool) (x y z : ℕ) → (aer && not d) && not e ≡ false → d ≡ false → cond d x (cond (aer && not e) y z) ≡ z
+changes aer true e x y z q p = absurd (true≢false p)
+changes true false true x y z q p = refl
+changes true false false x y z q p = absurd (true≢false q)
+changes false false e x y z q p = refl
 
 module _ (aer : Bool) (l : List ℕ) (f : Field) where
   -- register k of eight, by itself
