@@ -20,12 +20,21 @@ fn prove_and_link(library: &str) -> Result<(), String> {
     let root = Path::new(&manifest)
         .parent()
         .ok_or("this package has no folder above it")?;
-    for read in ["crates", "crates.txt", "rust/archive.rs"] {
+    for read in ["crates.txt", "rust/archive.rs", "tools/archive"] {
         println!("cargo:rerun-if-changed={}", root.join(read).display());
+    }
+    // Each crate's sources; beside them `rt` writes what it makes.
+    for of_crate in fs::read_dir(root.join("crates")).map_err(|e| e.to_string())? {
+        let of_crate = of_crate.map_err(|e| e.to_string())?.path();
+        for read in ["src", "specs", "proofs"].map(|part| of_crate.join(part)) {
+            if read.exists() {
+                println!("cargo:rerun-if-changed={}", read.display());
+            }
+        }
     }
     println!("cargo:rerun-if-changed=build.rs");
     prove(root, library)?;
-    // A copy, since `rt ci` removes the repository's target folder.
+    // A copy, since the next build of the archive writes it anew.
     let file = format!("lib{library}.a");
     let archive = root.join("target/staticlib").join(&file);
     fs::copy(&archive, Path::new(&out).join(&file))
@@ -35,20 +44,19 @@ fn prove_and_link(library: &str) -> Result<(), String> {
     Ok(())
 }
 
-/// `rt staticlib` in the repository's root.
+/// `tools/archive` in the repository's root.
 fn prove(root: &Path, library: &str) -> Result<(), String> {
-    let run = Command::new("rt")
-        .args(["staticlib", library])
-        .current_dir(root)
+    let run = Command::new(root.join("tools/archive"))
+        .arg(library)
         .output()
         .map_err(|e| {
-            format!("`rt` cannot be run ({e}): the Rattle toolchain is needed to prove the library")
+            format!("`tools/archive` cannot be run ({e}): it proves the library with the Rattle toolchain")
         })?;
     if run.status.success() {
         return Ok(());
     }
     Err(format!(
-        "`rt staticlib {library}` in {} failed ({}), so there is no proved library to link. It wrote:\n{}{}",
+        "`tools/archive {library}` in {} failed ({}), so there is no proved library to link. It wrote:\n{}{}",
         root.display(),
         run.status,
         String::from_utf8_lossy(&run.stdout),

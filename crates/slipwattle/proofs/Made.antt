@@ -51,12 +51,16 @@ pub data Made : Table → List Call → List Outcome → Table → Type 0 where
 
 pub made-outcomes : (t : Table) (l : List Call) (p : List Outcome) (u : Table) → Made t l p u → p ≡ outcomes t l
 made-outcomes t [] [] u none = refl
+made-outcomes t [] (o ∷ p) u m = elim m [ ]
+made-outcomes t (c ∷ l) [] u m = elim m [ ]
 made-outcomes t (c ∷ l) (o ∷ p) v (call e f m) =
     ap (λ (x : Outcome). x ∷ p) e
     ∙ ap (λ (q : List Outcome). (step t c).outcome ∷ q) (made-outcomes _ l p v m ∙ ap (λ (w : Table). outcomes w l) f)
 
 pub made_table : (t : Table) (l : List Call) (p : List Outcome) (u : Table) → Made t l p u → u ≡ table_after t l
 made_table t [] [] u none = refl
+made_table t [] (o ∷ p) u m = elim m [ ]
+made_table t (c ∷ l) [] u m = elim m [ ]
 made_table t (c ∷ l) (o ∷ p) v (call e f m) = made_table _ l p v m ∙ ap (λ (w : Table). table_after w l) f
 
 -- what each call requires holds of the table that it finds
@@ -71,9 +75,11 @@ made-sound x l p u m = subst Sound (sym (made_table (start_table x) l p u m)) (g
 pub made-fixed : (t : Table) (l : List Call) (p : List Outcome) (u : Table) → Made t l p u
     → (u.count ≡ t.count) × ((i : ℕ) → cleared (bridge_at u i) ≡ cleared (bridge_at t i))
 made-fixed t [] [] u none = (refl, λ i. refl)
-made-fixed t (c ∷ l) (o ∷ p) v (call e f m) = (
-  (made-fixed _ l p v m).0 ∙ ap (λ (w : Table). w.count) f ∙ here.0,
-  λ i. (made-fixed _ l p v m).1 i ∙ ap (λ (w : Table). cleared (bridge_at w i)) f ∙ here.1 i,
+made-fixed t [] (o ∷ p) u m = elim m [ ]
+made-fixed t (c ∷ l) [] u m = elim m [ ]
+made-fixed t (c ∷ l) (o ∷ p) v (call {u = u} e f m) = (
+  (made-fixed u l p v m).0 ∙ ap (λ (w : Table). w.count) f ∙ here.0,
+  λ i. (made-fixed u l p v m).1 i ∙ ap (λ (w : Table). cleared (bridge_at w i)) f ∙ here.1 i,
 )
   where
     here : ((step t c).table.count ≡ t.count) × ((i : ℕ) → cleared (bridge_at (step t c).table i) ≡ cleared (bridge_at t i))
