@@ -26,7 +26,7 @@ fn apart_before(rows: &[BridgeRow], i: usize, row: BridgeRow) -> bool
 
 // The rows judged one after the other, up to the first that is refused. There is one return, so that the array is copied in one place; it is cleared first, well before that.
 pub fn judge(mcfg: &[u8], rows: &[BridgeRow]) -> Judged
-    ensures { Judges (record { mcfg = mcfg.entry.now; rows = rows.now }) result }
+    ensures { Judges (record { mcfg = mcfg.now; rows = rows.now }) result }
 {
     let none = start::unused();
     let mut bridges = [none; rules::MAX_ROWS];

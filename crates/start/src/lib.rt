@@ -18,6 +18,7 @@ use rules::{Bridge, BridgeRow, SessionNumber, Started, Table};
 const SHPC: u32 = 0x02;
 
 // The control bits that an edition knows.
+#[tactic(auto, unfolding(rules::specs::Editions::known_control, rules::specs::Editions::control_bits))]
 fn known_control(edition: u8) -> u32
     ensures { result ≡ known_control edition }
 {
@@ -38,6 +39,7 @@ fn permissible(kind: u8, edition: u8) -> u32
 }
 
 // What is sound of one row that lies inside an entry, or in none.
+#[tactic(auto, unfolding(rules::specs::Limits::max_owner))]
 fn row_sound(row: BridgeRow, inside: bool) -> bool
     ensures { result ≡ row_sound_if inside row }
 {
@@ -115,6 +117,7 @@ pub fn admit(mcfg: &[u8], row: BridgeRow, apart: bool) -> Admitted
 }
 
 // What start refuses before it judges a row: 6, the MCFG table is not sound; 7, more rows than a table holds.
+#[tactic(auto, unfolding(rules::specs::Limits::max_rows))]
 pub fn first_number(mcfg: &[u8], count: usize) -> u8
     ensures { result ≡ first_number mcfg.now count }
 {
