@@ -10,7 +10,7 @@ import os
 import re
 
 WORD = re.compile(r"[^\W\d][\w'-]*")
-HUMP = re.compile(r"(?<=[a-z0-9])([A-Z])")
+HUMP = re.compile(r"(?<=[A-Za-z0-9])([A-Z])")
 # names that would fall together with another one, or with a field of a declared struct
 OTHER = {
     "deviceControl": "device_control_register",

@@ -3,7 +3,7 @@
 
 ghost use Rattle.std.specs.Prelude.{◌≡◌, get_or};
 ghost use Rattle.rules.specs.Records.{meaningful, in_ranges};
-ghost use Rattle.rules.specs.Writer.{pci_numbers, pci_xNumbers, express_numbers};
+ghost use Rattle.rules.specs.Writer.{pci_numbers, pci_x_numbers, express_numbers};
 
 use rules::{ExpressSetting, Masks, PciSetting, PciXSetting};
 
@@ -30,7 +30,7 @@ pub fn pci(p: PciSetting) -> bool
 
 // The ranges of type 1.
 pub fn pci_x(p: PciXSetting) -> bool
-    ensures { result ≡ in_ranges 1 (λ k. get_or (pci_xNumbers p) k 0) }
+    ensures { result ≡ in_ranges 1 (λ k. get_or (pci_x_numbers p) k 0) }
 {
     (p.maximum_memory_read_byte_count <= READ_COUNT)
         & (p.average_maximum_outstanding_split_transactions <= SPLITS)

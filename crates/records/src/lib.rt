@@ -4,7 +4,7 @@
 ghost use Rattle.std.specs.Prelude.{◌≡◌, ◌&&◌, [], ◌+◌, ◌^◌, ◌<◌, ◌≤◌, eqb, ltb, length};
 ghost use Rattle.rules.specs.Limits.{max_block};
 ghost use Rattle.rules.specs.Records.{value, is_record, record_size, and_mask, or_mask, in_ranges, field_sound, find_record};
-ghost use Rattle.rules.specs.Writer.{numbers_from, pci_of, pci_xOf, express_of};
+ghost use Rattle.rules.specs.Writer.{numbers_from, pci_of, pci_x_of, express_of};
 ghost use Rattle.records.specs.Fields.{field_read, judged, has, marked, choice};
 
 use rules::constants::MAX_BLOCK;
@@ -52,7 +52,7 @@ fn read_pci(b: &[u8], f: Field) -> PciSetting
 // The values of a type 1 record.
 fn read_pci_x(b: &[u8], f: Field) -> PciXSetting
     requires { 19 + f.start ≤ length b.now }
-    ensures { result ≡ pci_xOf (numbers_from 4 0 b.now f) }
+    ensures { result ≡ pci_x_of (numbers_from 4 0 b.now f) }
 {
     PciXSetting {
         maximum_memory_read_byte_count: words::read32(b, 7 + f.start),

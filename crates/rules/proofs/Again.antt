@@ -13,7 +13,7 @@ use lib.Seq.{drop-length, drop-cons}
 use Rattle.rules.specs.Lists.{first, prepend}
 use Rattle.rules.specs.Numbers.{le16, le32, dwords}
 use Rattle.rules.specs.Records.{field_at, fields_from, fields_of, value, is_record, record_size, record_among, record_in}
-use Rattle.rules.specs.Writer.{Setting, pci_numbers, pci_xNumbers, express_numbers, if_present, present_in, record_bytes, laid_down, numbers_from, numbers_of, flag_of, pci_of, pci_xOf, express_of, read_settings, are_bytes}
+use Rattle.rules.specs.Writer.{Setting, pci_numbers, pci_x_numbers, express_numbers, if_present, present_in, record_bytes, laid_down, numbers_from, numbers_of, flag_of, pci_of, pci_x_of, express_of, read_settings, are_bytes}
 use Rattle.rules.specs.declared.Field.{Field}
 use Rattle.rules.proofs.Bytes.{word-again, dword-again}
 use Rattle.rules.proofs.Rising.{none_below}
@@ -25,7 +25,7 @@ use Rattle.rules.proofs.Laying.{one_by_one}
 -- the numbers of a record of a type, read into its values and given again
 abbrev again : (type : ℕ) → List ℕ → List ℕ
 again zero v = pci_numbers (pci_of v)
-again (suc zero) v = pci_xNumbers (pci_xOf v)
+again (suc zero) v = pci_x_numbers (pci_x_of v)
 again (suc (suc t)) v = express_numbers (express_of v)
 
 module _ (l : List ℕ) where

@@ -14,7 +14,7 @@ use Rattle.rules.specs.Lists.{first, is_none}
 use Rattle.rules.specs.Refusals.{◌if◌, first_of}
 use Rattle.rules.specs.Numbers.{byte, word, dwords}
 use Rattle.rules.specs.Records.{fields_from, value, record_size, found_by}
-use Rattle.rules.specs.Writer.{Setting, pci_numbers, pci_xNumbers, express_numbers, if_present, present_in, record_bytes, laid_down, numbers_from, place_among, are_dwords, dwords_in}
+use Rattle.rules.specs.Writer.{Setting, pci_numbers, pci_x_numbers, express_numbers, if_present, present_in, record_bytes, laid_down, numbers_from, place_among, are_dwords, dwords_in}
 use Rattle.rules.specs.declared.Field.{Field}
 use Rattle.rules.specs.declared.FoundAt.{FoundAt}
 use Rattle.rules.specs.declared.Settings.{Settings}
@@ -167,5 +167,5 @@ pub present-rising : (s : Settings) → Records 0 (present_in s)
 unfolding present_in
 present-rising s =
     rw one_by_one (if-present s.has_pci 0 (pci_numbers s.pci) _ (omega arith)
-    (if-present s.has_pci_x 1 (pci_xNumbers s.pci_x) _ (omega arith)
+    (if-present s.has_pci_x 1 (pci_x_numbers s.pci_x) _ (omega arith)
     (if-present s.has_express 2 (express_numbers s.express) [] (omega arith) tt)))

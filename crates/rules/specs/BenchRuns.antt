@@ -373,8 +373,8 @@ pci_alone a b c d =
       has_express = 0;
     }
 
-abbrev pub pci_xAlone : (read average total : ℕ) → Settings
-pci_xAlone a b c =
+abbrev pub pci_x_alone : (read average total : ℕ) → Settings
+pci_x_alone a b c =
     let s = settings 0 1 0 in
     record {
       pci = s.pci;
@@ -431,7 +431,7 @@ abbrev pub one_other : (pci pci_x express cache read link_or : ℕ) → Settings
 one_other a b c cache read link_or =
     record {
       pci = (pci_alone cache 255 1 1).pci;
-      pci_x = (pci_xAlone read 7 7).pci_x;
+      pci_x = (pci_x_alone read 7 7).pci_x;
       express = (words_alone 1 65535 65535 65535 link_or).express;
       has_pci = a;
       has_pci_x = b;
@@ -484,10 +484,10 @@ writes =
     ∷ (number_of (pci_alone 255 256 1 1) gives 14)
     ∷ (number_of (pci_alone 255 255 2 1) gives 14)
     ∷ (number_of (pci_alone 255 255 1 2) gives 14)
-    ∷ (number_of (pci_xAlone 3 7 7) gives 0)
-    ∷ (number_of (pci_xAlone 4 7 7) gives 14)
-    ∷ (number_of (pci_xAlone 3 8 7) gives 14)
-    ∷ (number_of (pci_xAlone 3 7 8) gives 14)
+    ∷ (number_of (pci_x_alone 3 7 7) gives 0)
+    ∷ (number_of (pci_x_alone 4 7 7) gives 14)
+    ∷ (number_of (pci_x_alone 3 8 7) gives 14)
+    ∷ (number_of (pci_x_alone 3 7 8) gives 14)
     ∷ (number_of (words_alone 1 65535 65535 65535 65535) gives 0)
     ∷ (number_of (words_alone 1 65536 0 65535 65535) gives 14)
     ∷ (number_of (words_alone 1 65535 65536 65535 65535) gives 14)
@@ -505,7 +505,7 @@ writes =
     ∷ (number_of (pci_alone 0x80000000 255 1 1) gives 14)
     ∷ (number_of (pci_alone 0 0 0 0) gives 0)
     ∷ (number_of (pci_alone 255 255 0 1) gives 0)
-    ∷ (number_of (pci_xAlone 0 7 0) gives 0)
+    ∷ (number_of (pci_x_alone 0 7 0) gives 0)
     -- document 02, h: no senseless pair; each of the eight; absent; no room: 14 first
     ∷ (number_of (senseless_at 1 8) gives 0)
     ∷ (number_of (senseless_at 1 0) gives 14)

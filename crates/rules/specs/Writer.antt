@@ -26,8 +26,8 @@ pub record Setting : Type 0 where
 abbrev pub pci_numbers : PciSetting → List ℕ
 pci_numbers p = 1 ∷ p.cache_line_size ∷ p.latency_timer ∷ p.enable_serr ∷ p.enable_perr ∷ []
 
-abbrev pub pci_xNumbers : PciXSetting → List ℕ
-pci_xNumbers p =
+abbrev pub pci_x_numbers : PciXSetting → List ℕ
+pci_x_numbers p =
     1 ∷ p.maximum_memory_read_byte_count ∷ p.average_maximum_outstanding_split_transactions
     ∷ p.total_maximum_outstanding_split_transactions ∷ []
 
@@ -50,7 +50,7 @@ if_present flag type v = cond (eqb flag 0) [] (record { type = type; numbers = v
 unfoldable pub present_in : Settings → List Setting
 present_in s =
     if_present s.has_pci 0 (pci_numbers s.pci)
-    ++ if_present s.has_pci_x 1 (pci_xNumbers s.pci_x)
+    ++ if_present s.has_pci_x 1 (pci_x_numbers s.pci_x)
     ++ if_present s.has_express 2 (express_numbers s.express)
 
 -- ---- the writer: its number, the length handed back, the buffer after it
@@ -114,8 +114,8 @@ flag_of (some f) = 1
 abbrev pub pci_of : List ℕ → PciSetting
 pci_of v = record { cache_line_size = get_or v 1 0; latency_timer = get_or v 2 0; enable_serr = get_or v 3 0; enable_perr = get_or v 4 0 }
 
-abbrev pub pci_xOf : List ℕ → PciXSetting
-pci_xOf v = record {
+abbrev pub pci_x_of : List ℕ → PciXSetting
+pci_x_of v = record {
   maximum_memory_read_byte_count = get_or v 1 0;
   average_maximum_outstanding_split_transactions = get_or v 2 0;
   total_maximum_outstanding_split_transactions = get_or v 3 0;
@@ -140,7 +140,7 @@ express_of v = record {
 abbrev pub settings_by : List ℕ → (pci pci_x express : Option Field) → Settings
 settings_by l pci pci_x express = record {
   pci = pci_of (numbers_of l pci);
-  pci_x = pci_xOf (numbers_of l pci_x);
+  pci_x = pci_x_of (numbers_of l pci_x);
   express = express_of (numbers_of l express);
   has_pci = flag_of pci;
   has_pci_x = flag_of pci_x;

@@ -5,7 +5,7 @@ use mathlib.Core.Path.{◌≡◌, refl, sym, ap, ◌∙◌}
 use mathlib.Core.List.{List, [], ◌∷◌, ◌++◌, append_assoc, append-nil}
 use borrow.Author.Tests.{eq-eqb, ne_eqb}
 use lib.ListN.{length, length-append}
-use Rattle.rules.specs.Writer.{Setting, pci_numbers, pci_xNumbers, express_numbers, if_present, present_in, record_bytes, laid_down}
+use Rattle.rules.specs.Writer.{Setting, pci_numbers, pci_x_numbers, express_numbers, if_present, present_in, record_bytes, laid_down}
 use Rattle.rules.specs.declared.Settings.{Settings}
 
 pub laid-append : (l m : List Setting) → laid_down (l ++ m) ≡ laid_down l ++ laid_down m
@@ -24,25 +24,25 @@ module _ (flag type : ℕ) (v : List ℕ) where
 abbrev pub pci_in : Settings → List Setting
 pci_in s = if_present s.has_pci 0 (pci_numbers s.pci)
 
-abbrev pub pci_xIn : Settings → List Setting
-pci_xIn s = if_present s.has_pci_x 1 (pci_xNumbers s.pci_x)
+abbrev pub pci_x_in : Settings → List Setting
+pci_x_in s = if_present s.has_pci_x 1 (pci_x_numbers s.pci_x)
 
 abbrev pub express_in : Settings → List Setting
 express_in s = if_present s.has_express 2 (express_numbers s.express)
 
-pub three-in : (s : Settings) → present_in s ≡ pci_in s ++ pci_xIn s ++ express_in s
+pub three-in : (s : Settings) → present_in s ≡ pci_in s ++ pci_x_in s ++ express_in s
 unfolding present_in
 three-in s = refl
 
-pub laid-three : (s : Settings) → laid_down (present_in s) ≡ laid_down (pci_in s) ++ laid_down (pci_xIn s) ++ laid_down (express_in s)
+pub laid-three : (s : Settings) → laid_down (present_in s) ≡ laid_down (pci_in s) ++ laid_down (pci_x_in s) ++ laid_down (express_in s)
 laid-three s =
     ap laid_down (three-in s)
-    ∙ laid-append (pci_in s ++ pci_xIn s) (express_in s)
-    ∙ ap (λ (x : List ℕ). x ++ laid_down (express_in s)) (laid-append (pci_in s) (pci_xIn s))
+    ∙ laid-append (pci_in s ++ pci_x_in s) (express_in s)
+    ∙ ap (λ (x : List ℕ). x ++ laid_down (express_in s)) (laid-append (pci_in s) (pci_x_in s))
 
 -- how long they are
-pub laid-lengths : (s : Settings) → length (laid_down (present_in s)) ≡ length (laid_down (pci_in s)) + length (laid_down (pci_xIn s)) + length (laid_down (express_in s))
+pub laid-lengths : (s : Settings) → length (laid_down (present_in s)) ≡ length (laid_down (pci_in s)) + length (laid_down (pci_x_in s)) + length (laid_down (express_in s))
 laid-lengths s =
     ap length (laid-three s)
-    ∙ length-append (laid_down (pci_in s) ++ laid_down (pci_xIn s)) (laid_down (express_in s))
-    ∙ ap (λ (n : ℕ). n + length (laid_down (express_in s))) (length-append (laid_down (pci_in s)) (laid_down (pci_xIn s)))
+    ∙ length-append (laid_down (pci_in s) ++ laid_down (pci_x_in s)) (laid_down (express_in s))
+    ∙ ap (λ (n : ℕ). n + length (laid_down (express_in s))) (length-append (laid_down (pci_in s)) (laid_down (pci_x_in s)))

@@ -5,7 +5,7 @@ ghost use Rattle.std.specs.Prelude.{◌≡◌, ◌++◌, ◌+◌, ◌*◌, ◌�
 ghost use Rattle.rules.specs.Numbers.{dwords};
 ghost use Rattle.rules.specs.Writer.{
   pci_numbers,
-  pci_xNumbers,
+  pci_x_numbers,
   express_numbers,
   if_present,
   present_in,
@@ -36,7 +36,7 @@ fn pci_numbers(p: PciSetting) -> [u32; 5]
 }
 
 fn pci_x_numbers(p: PciXSetting) -> [u32; 4]
-    ensures { result ≡ pci_xNumbers p }
+    ensures { result ≡ pci_x_numbers p }
 {
     [
         REVISION,
@@ -91,7 +91,7 @@ fn measure_pci(flag: u8, p: PciSetting) -> Measured
 }
 
 fn measure_pci_x(flag: u8, p: PciXSetting) -> Measured
-    ensures { result ≡ measured (if_present flag 1 (pci_xNumbers p)) }
+    ensures { result ≡ measured (if_present flag 1 (pci_x_numbers p)) }
 {
     if flag == 0 {
         return Measured::Bytes(0);

@@ -8,7 +8,7 @@ use lib.ListN.{get_or}
 use borrow.Author.Rules.{rules}
 use borrow.Author.Tests.{eq-eqb, ne_eqb}
 use Rattle.rules.specs.Records.{value, record_size, in_ranges}
-use Rattle.rules.specs.Writer.{pci_numbers, pci_xNumbers, express_numbers}
+use Rattle.rules.specs.Writer.{pci_numbers, pci_x_numbers, express_numbers}
 use Rattle.rules.specs.declared.Field.{Field}
 use Rattle.rules.specs.declared.PciSetting.{PciSetting}
 use Rattle.rules.specs.declared.PciXSetting.{PciXSetting}
@@ -58,7 +58,7 @@ returns-5 c =
     let a = c.before.before.before.before.before.before.args in
     let t = c.before.before.before.before.match.keys2 in
     its-length a.b.now a.f 16 (ap record_size t) c.before.before.if2.false c.pci-x.result
-    (c.pci-x.ensures ∙ ap (λ (p : PciXSetting). in_ranges 1 (λ k. get_or (pci_xNumbers p) k 0)) c.before.read-pci-x.ensures
+    (c.pci-x.ensures ∙ ap (λ (p : PciXSetting). in_ranges 1 (λ k. get_or (pci_x_numbers p) k 0)) c.before.read-pci-x.ensures
     ∙ ap (λ (n : ℕ). in_ranges n (value a.b.now a.f)) (sym t))
 
 returns-6 : tie.Need-returns-6

@@ -8,7 +8,7 @@ use borrow.Author.Rules.{rules}
 use Rattle.rules.specs.Writer.{if_present, laid_down}
 use Rattle.rules.specs.declared.Settings.{Settings}
 use Rattle.writer.specs.Splices.{splice}
-use Rattle.writer.proofs.Present.{pci_in, pci_xIn, express_in, laid-three, laid-lengths}
+use Rattle.writer.proofs.Present.{pci_in, pci_x_in, express_in, laid-three, laid-lengths}
 use Rattle.writer.proofs.Splicing.{three-written}
 use Rattle.writer.proofs.lay_down.Statement.{statement}
 use Rattle.writer.proofs.lay_down.Tie as tie
@@ -31,7 +31,7 @@ first_ends c = ends (settings c).has_pci 0 0 _ _ c.before.before.pci-numbers.ens
 abbrev behind : tie.After-write-if2 → tie.After-write-if
 behind c = c.before.before.before.before.before.before
 
-second-ends : (c : tie.After-write-if2) → c.write-if2.result ≡ length (laid_down (pci_xIn (settings (behind c)))) + (behind c).write-if.result
+second-ends : (c : tie.After-write-if2) → c.write-if2.result ≡ length (laid_down (pci_x_in (settings (behind c)))) + (behind c).write-if.result
 second-ends c =
     ends (settings (behind c)).has_pci_x 1 (behind c).write-if.result _ _ c.before.before.pci-x-numbers.ensures c.write-if2.result c.write-if2.ensures.0
 
@@ -57,7 +57,7 @@ returns c =
     let w = behind x in
     let s = settings w in
     let b = w.before.before.before.before.before.args.buffer.now in
-    three-written (laid_down (pci_in s)) (laid_down (pci_xIn s)) (laid_down (express_in s)) b _ _ _ w.write-if.result x.write-if2.result (first_ends w) (second-ends x)
+    three-written (laid_down (pci_in s)) (laid_down (pci_x_in s)) (laid_down (express_in s)) b _ _ _ w.write-if.result x.write-if2.result (first_ends w) (second-ends x)
     (holds s.has_pci 0 0 _ _ w.before.before.pci-numbers.ensures b _ w.write-if.ensures.1)
     (holds s.has_pci_x 1 w.write-if.result _ _ x.before.before.pci-x-numbers.ensures _ _ x.write-if2.ensures.1)
     (holds s.has_express 2 x.write-if2.result _ _ y.before.before.express-numbers.ensures _ _ y.write-if3.ensures.1)
