@@ -36,11 +36,11 @@ fn record_part<'a>(slot: &'a [u8], block: &'a [u8], at: FoundAt) -> &'a [u8]
     parts::cut(deciding(slot, block), at)
 }
 
-// The record search, in one pass over the block. The struct holds a reference, so the proof walks the code by hand.
+// The record search, in one pass over the block.
 pub fn find_record<'a>(slot: &'a [u8], block: &'a [u8], record_type: u32) -> Found<'a>
     ensures { (result.number ≡ (find_record slot.now block.now record_type).number)
         × (result.part.now ≡ part (find_record slot.now block.now record_type) (deciding slot.now block.now))
-        × (result.part.ptr ≡ part_at (find_record slot.now block.now record_type)
+        × (result.part.ref_ptr ≡ part_at (find_record slot.now block.now record_type)
         (deciding_at slot.now slot.entry.ref_ptr block.entry.ref_ptr)) }
 {
     let at = search(slot, block, record_type);

@@ -1,26 +1,17 @@
--- The field reader: a field that ends inside the block is read whole, one that does not ends the walk.
+-- What the field reader's answer says of the block: a field read whole ends inside it, the end of the walk is met where a field would not.
 -- Assumes nothing.
-use Prim.Native.Nat.{ℕ, ◌+◌, ◌≤◌, ◌<◌}
+use Prim.Native.Nat.{ℕ, ◌+◌, ◌≤◌}
 use mathlib.Core.Path.{◌≡◌, refl, sym, ap, subst}
 use mathlib.Core.Bool.{Bool, true, false, cond}
 use mathlib.Core.List.{List}
 use native.Mathlib.Omega.{arith}
 use lib.Dec.{leb}
 use lib.ListN.{length}
-use borrow.Author.Tests.{le-leb, lt-leb, leb-true}
-use Rattle.rules.specs.Numbers.{byte}
+use borrow.Author.Tests.{leb-true}
 use Rattle.rules.specs.Records.{field_at}
 use Rattle.rules.specs.declared.Field.{Field}
 use Rattle.records.specs.Fields.{field_read}
 use Rattle.records.specs.declared.FieldRead.TheVariants.{Whole, End}
-
-pub read-end : (l : List ℕ) (i : ℕ) → length l < 3 + (field_at l i).size + i → End ≡ field_read l i
-read-end l i h = rw (lt-leb (3 + (field_at l i).size + i) (length l) h)
-
-pub read_whole : (l : List ℕ) (i n : ℕ) → n ≡ (field_at l i).size → 3 + n + i ≤ length l → Whole (record { start = i; tag = byte l i; size = n }) ≡ field_read l i
-read_whole l i n e h =
-    let k : 3 + (field_at l i).size + i ≤ length l = omega arith in
-    rw (le-leb (3 + (field_at l i).size + i) (length l) k, e)
 
 -- a field read whole is the field where it starts, and ends inside the block
 pub whole_is : (l : List ℕ) (i : ℕ) (f : Field) → Whole f ≡ field_read l i → f ≡ field_at l i

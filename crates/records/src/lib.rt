@@ -205,6 +205,7 @@ fn chosen(found: FoundAt, f: Field, record_type: u32) -> FoundAt
 }
 
 // Whether a block is too long to be sound.
+#[tactic(auto, unfolding(rules::specs::Limits::max_block))]
 fn too_long(b: &[u8]) -> bool
     ensures { result ≡ ltb max_block (length b.now) }
 {
