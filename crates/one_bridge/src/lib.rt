@@ -44,6 +44,7 @@ pub struct BridgeDone {
 }
 
 // Where a bridge stands in the table's array. It is inside the array whatever the number is; the calls refuse a number that the table has not.
+#[tactic(auto, unfolding(rules::specs::Limits::max_rows))]
 pub fn index(n: BridgeNumber) -> usize
     ensures { result ≡ n.0 % max_rows }
 {
@@ -220,6 +221,7 @@ fn holds(bridge: Bridge, mask: u32) -> bool
 }
 
 // Refusals 1, 2, 11 and 10; 8 and 9 come after them.
+#[tactic(auto, using(crate::proofs::ByNumber::hot_plug_bit))]
 fn values_refusal(
     bridges: usize,
     bridge: Bridge,

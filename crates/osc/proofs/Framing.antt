@@ -1,12 +1,12 @@
 -- What a framed call has, and what the error status says.
-use Prim.Native.Nat.{ℕ, ◌*◌, ◌%◌, ◌≤◌, ◌<◌}
+use Prim.Native.Nat.{ℕ, ◌*◌, ◌%◌, ◌≤◌}
 use mathlib.Core.Path.{◌≡◌, refl, sym, ◌∙◌}
-use mathlib.Core.Bool.{Bool, true, false, cond, not, ◌&&◌, ◌||◌}
+use mathlib.Core.Bool.{Bool, true, false, cond, not, ◌&&◌}
 use mathlib.Core.List.{List}
 use native.Mathlib.Omega.{arith}
 use lib.Dec.{eqb, ltb}
 use lib.ListN.{length}
-use borrow.Author.Tests.{eqb-true, eqb-false, ltb-false, eq-eqb, ne_eqb, lt-ltb, le-ltb, not-false}
+use borrow.Author.Tests.{eqb-true, eqb-false, ltb-false, not-false}
 use Rattle.rules.specs.Numbers.{same_bytes}
 use Rattle.rules.specs.Osc.{uuid_bytes, framing_bad, recognised, error_status}
 use Rattle.rules.proofs.Tests.{or-false, and-true}
@@ -31,26 +31,6 @@ framed count uuid caps answer e =
       capabilities-long = eqb-true (length caps) (4 * count) (not-false (eqb (length caps) (4 * count)) c.1);
       answer-long = eqb-true (length answer) (4 * count) (not-false (eqb (length answer) (4 * count)) a.1);
     }
-
--- refusal 3, test by test
-module _ (count : ℕ) (uuid caps answer : List ℕ) where
-  pub uuid-length : (length uuid ≡ 16 → ⊥) → true ≡ framing_bad count uuid caps answer
-  unfolding framing_bad
-  uuid-length n = rw (ne_eqb (length uuid) 16 n)
-
-  module _ (u : length uuid ≡ 16) where
-    pub count-zero : count ≡ 0 → true ≡ framing_bad count uuid caps answer
-    unfolding framing_bad
-    count-zero z = rw (eq-eqb (length uuid) 16 u, eq-eqb count 0 z)
-
-    module _ (n : count ≡ 0 → ⊥) where
-      pub count-above : 8 < count → true ≡ framing_bad count uuid caps answer
-      unfolding framing_bad
-      count-above h = rw (eq-eqb (length uuid) 16 u, ne_eqb count 0 n, lt-ltb 8 count h)
-
-      pub lengths-left : count ≤ 8 → not (eqb (length caps) (4 * count)) || not (eqb (length answer) (4 * count)) ≡ framing_bad count uuid caps answer
-      unfolding framing_bad
-      lengths-left h = rw (eq-eqb (length uuid) 16 u, ne_eqb count 0 n, le-ltb 8 count h)
 
 -- an error status is never 0
 error-not-zero : (revision : ℕ) (uuid : List ℕ) → error_status revision uuid ≡ 0 → ⊥

@@ -56,6 +56,7 @@ const UNSUPPORTED_3_3: u32 = 0x37f;
 const QUERY: u32 = 0x01;
 
 // Refusal 3.
+#[tactic(auto, unfolding(rules::specs::Osc::framing_bad))]
 pub fn framing_bad(count: u32, uuid: &[u8], caps: &[u8], answer: &[u8]) -> bool
     ensures { result ≡ framing_bad count uuid.now caps.now answer.now }
 {
@@ -80,6 +81,7 @@ fn is_uuid(uuid: &[u8]) -> bool
 }
 
 // 0 where the UUID, the revision and the Count are right, else the error status.
+#[tactic(auto, unfolding(rules::specs::Osc::recognised))]
 fn error_status(revision: u32, count: u32, uuid: &[u8]) -> u32
     ensures { result ≡ cond (recognised revision count uuid.now) 0 (error_status revision uuid.now) }
 {
@@ -104,6 +106,7 @@ fn is_query(caps: &[u8]) -> bool
 }
 
 // These bits, where the set has all that they need.
+#[tactic(auto, using(std::proofs::lemmas::Nat::and_comm))]
 fn met(set: u32, needs: u32, bits: u32) -> u32
     ensures { result ≡ cond (within needs set) bits 0 }
 {
@@ -167,6 +170,7 @@ pub fn granted_bits(b: Bridge, support: u32, requested: u32) -> u32
 }
 
 // The support bits that an edition knows.
+#[tactic(auto, unfolding(rules::specs::Editions::known_support))]
 fn known_support(edition: u8) -> u32
     ensures { result ≡ known_support edition }
 {
