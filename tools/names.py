@@ -1,9 +1,10 @@
 #!/usr/bin/env python3
 """Gives the repository's own definitions today's spelling, below crates/: words in snake case.
 
-Run once, at the top, after the toolchain's own script (docs/PORT.md names the commits). A word of the definitions that has a capital inside gets an underscore there
-(`rowSound`, `row_sound`), wherever it stands: definitions, clauses, proofs, comments. So do the fields of records that had a dash (`full-length`, `full_length`).
-Lemmas keep the dash that joins their parts. Names in code, in strings, in numbers and of the library keep theirs.
+Run at the top, after the toolchain's own script (docs/PORT.md names the commits); run again it changes nothing more. A word of the definitions that has a capital inside gets an
+underscore there (`rowSound`, `row_sound`), wherever it stands: definitions, clauses, proofs, comments. So does what had a dash, of the repository's own: fields of records, lemmas and the
+variables that they are stated of (`full-length`, `full_length`); where the new name was another thing's, it ends in `_lem`. Names in code, in strings, in numbers, of the library, and those
+that the check makes of code, as goals' names, keep theirs.
 """
 
 import os
@@ -64,6 +65,38 @@ def fields_of(text):
     return found
 
 
+DECLARED = re.compile(r"^ *(?:(?:pub|abbrev|unfoldable)\s+)*([a-z][\w']*(?:-[\w']+)+)(?:\s*(?:\{[^}]*\}|\([^)]*\)))*\s*:(?!:)(?! *goal\.)", re.M)
+BOUND = re.compile(r"[({]((?:[\w'-]+ )*[a-z][\w']*(?:-[\w']+)+(?: [\w'-]+)*) :")
+IMPORTED = re.compile(r"use ([\w.\u00b7]+)\.\{([^}]*)\}")
+# what the check calls a goal, a loop, a step
+MADE = re.compile(r"^(returns|loop|invariant|decreases|slice|element|mul|add|cast|entry|overflow|bounds)-|-(requires|spec)(-\d+)?$|^[a-z_]+-[a-z_]*-?t\d+$")
+
+
+def of_code(path):
+    """Whether the file is a function's proof, whose own names follow the code."""
+    return path.endswith(("/Proof.antt", "/Given.antt"))
+
+
+def lemmas_of(texts):
+    """The names with a dash that the repository declares or binds, each with its new one."""
+    own, library, words = set(), set(), set()
+    for path, text in texts.items():
+        words.update(m.group(0) for m in WORD.finditer(text))
+        for m in IMPORTED.finditer(text):
+            if not m.group(1).startswith("Rattle") or m.group(1).startswith(("Rattle.std", "Rattle.core")):
+                library.update(n.strip().split(" as ")[0] for n in m.group(2).split(","))
+        if path.endswith(".antt") and not of_code(path):
+            own.update(m.group(1) for m in DECLARED.finditer(text))
+            for m in BOUND.finditer(text):
+                own.update(n for n in m.group(1).split() if "-" in n)
+    new = {}
+    for name in sorted(own - library):
+        if not MADE.search(name) and not name.startswith("map-map"):
+            plain = "-".join(snake(p) for p in name.split("-")).replace("-", "_")
+            new[name] = plain + "_lem" if plain in words else plain
+    return new
+
+
 def main():
     texts = {}
     for path in files():
@@ -79,6 +112,7 @@ def main():
     # two claims have a definition's name
     fields["record-part"] = "record_part_lem"
     fields["image-part"] = "image_part_lem"
+    fields = lemmas_of(texts) | fields
     for path, text in texts.items():
         if path.endswith(".antt"):
             new = WORD.sub(lambda m: word(m, fields), text)

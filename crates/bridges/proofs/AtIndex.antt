@@ -14,12 +14,12 @@ use Rattle.rules.specs.declared.Bridge.{Bridge}
 use Rattle.rules.specs.declared.BridgeNumber.{BridgeNumber}
 use Rattle.rules.specs.declared.SessionNumber.{SessionNumber}
 use Rattle.rules.specs.declared.Table.{Table}
-use Rattle.rules.proofs.Local.{absent-first, same-bridge}
+use Rattle.rules.proofs.Local.{absent_first, same_bridge}
 
 -- a call changes nothing of a bridge but what it holds
-bridge-held : (k : ℕ) (b : Bridge) (o : Operation) → with_holding b (holding (bridge_by k b o)) ≡ bridge_by k b o
-bridge-held zero b o = refl
-bridge-held (suc k) b o = refl
+bridge_held : (k : ℕ) (b : Bridge) (o : Operation) → with_holding b (holding (bridge_by k b o)) ≡ bridge_by k b o
+bridge_held zero b o = refl
+bridge_held (suc k) b o = refl
 
 module _ (t : Table) (size : ℕ) (few : t.count ≤ size) (n : BridgeNumber) where
   -- the index of a bridge that the table has is its number
@@ -27,45 +27,45 @@ module _ (t : Table) (size : ℕ) (few : t.count ≤ size) (n : BridgeNumber) wh
   there h = mod-eq_of_lt (omega arith)
 
   -- the bridge at the index is sound where the table is
-  pub index-sound : Sound t → BridgeSound t.count n (bridge_at t (n.0 % size))
-  index-sound h l = subst (λ (i : ℕ). bus_end (bridge_at t i).base (bridge_at t i).last_bus ≤ 2 ^ 64) (sym (there l)) (h.window_ends n.0 l)
+  pub index_sound : Sound t → BridgeSound t.count n (bridge_at t (n.0 % size))
+  index_sound h l = subst (λ (i : ℕ). bus_end (bridge_at t i).base (bridge_at t i).last_bus ≤ 2 ^ 64) (sym (there l)) (h.window_ends n.0 l)
 
 module _ (t : Table) (size : ℕ) (few : t.count ≤ size) (s : SessionNumber) (n : BridgeNumber) (o : Operation) where
   abbrev index : ℕ
   index = n.0 % size
 
   refused : t.count ≤ n.0 → (i : ℕ) → number_at t.count s n (bridge_at t i) o ≡ 1
-  refused h i = absent-first t.count s n (bridge_at t i) o (le-leb t.count n.0 h)
+  refused h i = absent_first t.count s n (bridge_at t i) o (le-leb t.count n.0 h)
 
-  pub index-outcome : outcome_at t.count s n (bridge_at t index) o ≡ (step t (on s n o)).outcome
+  pub index_outcome : outcome_at t.count s n (bridge_at t index) o ≡ (step t (on s n o)).outcome
   unfolding step
-  index-outcome = elim (dec_lt n.0 t.count) [ yes h ↦ ap (λ (i : ℕ). outcome_at t.count s n (bridge_at t i) o) (there t size few n h) | no h ↦ out (omega arith) ]
+  index_outcome = elim (dec_lt n.0 t.count) [ yes h ↦ ap (λ (i : ℕ). outcome_at t.count s n (bridge_at t i) o) (there t size few n h) | no h ↦ out (omega arith) ]
     where
       out : t.count ≤ n.0 → outcome_at t.count s n (bridge_at t index) o ≡ outcome_at t.count s n (bridge_at t n.0) o
       out h =
           ap (λ (k : ℕ). outcome_by k (bridge_at t index) o) (refused h index)
           ∙ sym (ap (λ (k : ℕ). outcome_by k (bridge_at t n.0) o) (refused h n.0))
 
-  index-table : with_bridge t index (bridge_after t.count s n (bridge_at t index) o) ≡ (step t (on s n o)).table
+  index_table : with_bridge t index (bridge_after t.count s n (bridge_at t index) o) ≡ (step t (on s n o)).table
   unfolding step
-  index-table = elim (dec_lt n.0 t.count) [ yes h ↦ ap (λ (i : ℕ). with_bridge t i (bridge_after t.count s n (bridge_at t i) o)) (there t size few n h) | no h ↦ out (omega arith) ]
+  index_table = elim (dec_lt n.0 t.count) [ yes h ↦ ap (λ (i : ℕ). with_bridge t i (bridge_after t.count s n (bridge_at t i) o)) (there t size few n h) | no h ↦ out (omega arith) ]
     where
       kept : (i : ℕ) → t.count ≤ n.0 → with_bridge t i (bridge_after t.count s n (bridge_at t i) o) ≡ t
-      kept i h = ap (λ (k : ℕ). with_bridge t i (bridge_by k (bridge_at t i) o)) (refused h i) ∙ same-bridge t i
+      kept i h = ap (λ (k : ℕ). with_bridge t i (bridge_by k (bridge_at t i) o)) (refused h i) ∙ same_bridge t i
 
       out : t.count ≤ n.0 → with_bridge t index (bridge_after t.count s n (bridge_at t index) o) ≡ with_bridge t n.0 (bridge_after t.count s n (bridge_at t n.0) o)
       out h = kept index h ∙ sym (kept n.0 h)
 
   -- the same where only what the bridge holds is stored
-  pub index-held : (y : Bridge) → y ≡ bridge_after t.count s n (bridge_at t index) o → with_bridge t index (with_holding (bridge_at t index) (holding y)) ≡ (step t (on s n o)).table
-  index-held y e =
+  pub index_held : (y : Bridge) → y ≡ bridge_after t.count s n (bridge_at t index) o → with_bridge t index (with_holding (bridge_at t index) (holding y)) ≡ (step t (on s n o)).table
+  index_held y e =
       ap (λ (x : Bridge). with_bridge t index (with_holding (bridge_at t index) (holding x))) e
-      ∙ ap (with_bridge t index) (bridge-held (number_at t.count s n (bridge_at t index) o) (bridge_at t index) o) ∙ index-table
+      ∙ ap (with_bridge t index) (bridge_held (number_at t.count s n (bridge_at t index) o) (bridge_at t index) o) ∙ index_table
 
   -- an operation that leaves what the bridge holds leaves the table
   pub table_kept : ((b : Bridge) → after b o ≡ holding b) → t ≡ (step t (on s n o)).table
   unfolding step
-  table_kept f = sym (ap (with_bridge t n.0) (go (number_at t.count s n (bridge_at t n.0) o)) ∙ same-bridge t n.0)
+  table_kept f = sym (ap (with_bridge t n.0) (go (number_at t.count s n (bridge_at t n.0) o)) ∙ same_bridge t n.0)
     where
       go : (k : ℕ) → bridge_by k (bridge_at t n.0) o ≡ bridge_at t n.0
       go zero = ap (with_holding (bridge_at t n.0)) (f (bridge_at t n.0))
@@ -74,12 +74,12 @@ module _ (t : Table) (size : ℕ) (few : t.count ≤ size) (s : SessionNumber) (
 -- What the calls by value ensure, from what the call on the bridge at `one_bridge::index` ensures.
 module _ (t : Table) (sound : Sound t) (s : SessionNumber) (n : BridgeNumber) (i : ℕ) (here : i ≡ n.0 % max_rows) (o : Operation) where
   found : outcome_at t.count s n (bridge_at t i) o ≡ (step t (on s n o)).outcome
-  found = rw here (index-outcome t max_rows sound.few s n o)
+  found = rw here (index_outcome t max_rows sound.few s n o)
 
   -- an operation that leaves what the bridge holds
   pub as_read : ((b : Bridge) → after b o ≡ holding b) → {x : Outcome} → x ≡ outcome_at t.count s n (bridge_at t i) o → (x ≡ (step t (on s n o)).outcome) × (t ≡ (step t (on s n o)).table)
   as_read keeps e = (e ∙ found, table_kept t max_rows sound.few s n o keeps)
 
   -- one whose bridge is stored
-  pub as-done : {x : Outcome} {y : Bridge} → (x ≡ outcome_at t.count s n (bridge_at t i) o) × (y ≡ bridge_after t.count s n (bridge_at t i) o) → (x ≡ (step t (on s n o)).outcome) × (with_bridge t i y ≡ (step t (on s n o)).table)
-  as-done e = (e.0 ∙ found, ap (with_bridge t i) e.1 ∙ rw here (index-table t max_rows sound.few s n o))
+  pub as_done : {x : Outcome} {y : Bridge} → (x ≡ outcome_at t.count s n (bridge_at t i) o) × (y ≡ bridge_after t.count s n (bridge_at t i) o) → (x ≡ (step t (on s n o)).outcome) × (with_bridge t i y ≡ (step t (on s n o)).table)
+  as_done e = (e.0 ∙ found, ap (with_bridge t i) e.1 ∙ rw here (index_table t max_rows sound.few s n o))

@@ -7,13 +7,13 @@ use native.Mathlib.Omega.{arith}
 use lib.ListN.{length}
 use Rattle.rules.specs.Records.{deciding, deciding_at}
 
-pub block-decides : (slot block : List ℕ) → length slot ≡ 0 → block ≡ deciding slot block
-block-decides [] block e = refl
-block-decides (x ∷ slot) block e = absurd (omega arith)
+pub block_decides : (slot block : List ℕ) → length slot ≡ 0 → block ≡ deciding slot block
+block_decides [] block e = refl
+block_decides (x ∷ slot) block e = absurd (omega arith)
 
-pub slot-decides : (slot block : List ℕ) → (length slot ≡ 0 → ⊥) → slot ≡ deciding slot block
-slot-decides [] block n = absurd (n refl)
-slot-decides (x ∷ slot) block n = refl
+pub slot_decides : (slot block : List ℕ) → (length slot ≡ 0 → ⊥) → slot ≡ deciding slot block
+slot_decides [] block n = absurd (n refl)
+slot_decides (x ∷ slot) block n = refl
 
 -- and so for where the blocks lie
 pub block_at : (slot : List ℕ) (p q : ℕ × ℕ) → length slot ≡ 0 → q ≡ deciding_at slot p q

@@ -32,19 +32,19 @@ module _ (aer : Bool) (l : List ℕ) (f : Field) where
   eight current =
       one current 0 ∷ one current 1 ∷ one current 2 ∷ one current 3 ∷ one current 4 ∷ one current 5 ∷ one current 6 ∷ one current 7 ∷ []
 
-pub eight-new : (aer : Bool) (l : List ℕ) (f : Field) (current : List ℕ) → length current ≡ 8 → eight aer l f current ≡ new_values aer l f 0 current
-eight-new aer l f [] e = absurd (omega arith)
-eight-new aer l f (a ∷ []) e = absurd (omega arith)
-eight-new aer l f (a ∷ b ∷ []) e = absurd (omega arith)
-eight-new aer l f (a ∷ b ∷ c ∷ []) e = absurd (omega arith)
-eight-new aer l f (a ∷ b ∷ c ∷ d ∷ []) e = absurd (omega arith)
-eight-new aer l f (a ∷ b ∷ c ∷ d ∷ g ∷ []) e = absurd (omega arith)
-eight-new aer l f (a ∷ b ∷ c ∷ d ∷ g ∷ h ∷ []) e = absurd (omega arith)
-eight-new aer l f (a ∷ b ∷ c ∷ d ∷ g ∷ h ∷ i ∷ []) e = absurd (omega arith)
-eight-new aer l f (a ∷ b ∷ c ∷ d ∷ g ∷ h ∷ i ∷ j ∷ []) e = refl
-eight-new aer l f (a ∷ b ∷ c ∷ d ∷ g ∷ h ∷ i ∷ j ∷ k ∷ r) e = absurd (omega arith)
+pub eight_new : (aer : Bool) (l : List ℕ) (f : Field) (current : List ℕ) → length current ≡ 8 → eight aer l f current ≡ new_values aer l f 0 current
+eight_new aer l f [] e = absurd (omega arith)
+eight_new aer l f (a ∷ []) e = absurd (omega arith)
+eight_new aer l f (a ∷ b ∷ []) e = absurd (omega arith)
+eight_new aer l f (a ∷ b ∷ c ∷ []) e = absurd (omega arith)
+eight_new aer l f (a ∷ b ∷ c ∷ d ∷ []) e = absurd (omega arith)
+eight_new aer l f (a ∷ b ∷ c ∷ d ∷ g ∷ []) e = absurd (omega arith)
+eight_new aer l f (a ∷ b ∷ c ∷ d ∷ g ∷ h ∷ []) e = absurd (omega arith)
+eight_new aer l f (a ∷ b ∷ c ∷ d ∷ g ∷ h ∷ i ∷ []) e = absurd (omega arith)
+eight_new aer l f (a ∷ b ∷ c ∷ d ∷ g ∷ h ∷ i ∷ j ∷ []) e = refl
+eight_new aer l f (a ∷ b ∷ c ∷ d ∷ g ∷ h ∷ i ∷ j ∷ k ∷ r) e = absurd (omega arith)
 
 -- eight numbers, one by one
-pub eight-same : {a b c d e f g h a' b' c' d' e' f' g' h' : ℕ} → a ≡ a' → b ≡ b' → c ≡ c' → d ≡ d' → e ≡ e' → f ≡ f' → g ≡ g' → h ≡ h'
+pub eight_same : {a b c d e f g h a' b' c' d' e' f' g' h' : ℕ} → a ≡ a' → b ≡ b' → c ≡ c' → d ≡ d' → e ≡ e' → f ≡ f' → g ≡ g' → h ≡ h'
     → a ∷ b ∷ c ∷ d ∷ e ∷ f ∷ g ∷ h ∷ [] ≡ a' ∷ b' ∷ c' ∷ d' ∷ e' ∷ f' ∷ g' ∷ h' ∷ []
-eight-same p q r s t u v w = cc
+eight_same p q r s t u v w = cc

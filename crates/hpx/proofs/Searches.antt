@@ -15,16 +15,16 @@ use Rattle.rules.specs.Refusals.{first_of}
 use Rattle.rules.specs.Records.{field_at, fields_of, value, is_record, record_size, in_ranges, field_sound, sound_fields, block_sound, deciding, record_among, record_in, record_refusals, found_by, find_record, registers_bad, new_value, new_values}
 use Rattle.rules.specs.declared.Field.{Field}
 use Rattle.rules.specs.declared.FoundAt.{FoundAt}
-use Rattle.rules.proofs.Tests.{and-true, and_l, and_r, and-off, or-false}
+use Rattle.rules.proofs.Tests.{and-true, and_l, and_r, and_off, or_false}
 use Rattle.rules.proofs.Refusals.{clear}
 use Rattle.rules.proofs.Records.{record_part_lem}
 use Rattle.hpx.specs.Answers.{values_at}
 
 -- ---- the part
 
-pub found-fits : (slot block : List ℕ) (type : ℕ)
+pub found_fits : (slot block : List ℕ) (type : ℕ)
     → (find_record slot block type).start + (find_record slot block type).size ≤ length (deciding slot block)
-found-fits slot block type = go (first_of (record_refusals slot block type)) (record_in l type) (λ e. (record_part_lem slot block type e).0)
+found_fits slot block type = go (first_of (record_refusals slot block type)) (record_in l type) (λ e. (record_part_lem slot block type e).0)
   where
     l : List ℕ
     l = deciding slot block
@@ -44,13 +44,13 @@ number_is (suc k) o = refl
 
 -- a search that gives 0 found a record in a sound block
 record Finds (l : List ℕ) (type : ℕ) : Type 0 where
-  is-sound : block_sound l ≡ true
-  is-there : is_none (record_in l type) ≡ false
+  is_sound_lem : block_sound l ≡ true
+  is_there : is_none (record_in l type) ≡ false
 
 finds : (slot block : List ℕ) (type : ℕ) → first_of (record_refusals slot block type) ≡ 0 → Finds (deciding slot block) type
 finds slot block type e =
     let c = clear (record_refusals slot block type) (omega arith) e in
-    record { is-sound = not-false (block_sound (deciding slot block)) c.0; is-there = c.1.0 }
+    record { is_sound_lem = not-false (block_sound (deciding slot block)) c.0; is_there = c.1.0 }
 
 -- ---- a type 2 record is 71 bytes long
 
@@ -67,36 +67,36 @@ first_passes p q (y ∷ r) x e a =
     go false i e b ih = ih e
 
 -- the length's test, out of all that is sound of a field
-length-test : (a b c r s v : Bool) → (a || (b && c && (not r || (s && v)))) ≡ true → a ≡ false → r ≡ true → s ≡ true
-length-test a b c r true v e p q = refl
-length-test true b c r false v e p q = sym p
-length-test false b c false false v e p q = q
-length-test false b c true false v e p q = sym (and-off (b && c)) ∙ e
+length_test : (a b c r s v : Bool) → (a || (b && c && (not r || (s && v)))) ≡ true → a ≡ false → r ≡ true → s ≡ true
+length_test a b c r true v e p q = refl
+length_test true b c r false v e p q = sym p
+length_test false b c false false v e p q = q
+length_test false b c true false v e p q = sym (and_off (b && c)) ∙ e
 
-record-long : (l : List ℕ) (f : Field) → is_record l f && eqb f.tag 2 ≡ true → field_sound l f ≡ true → f.size ≡ 68
-record-long l f p q =
+record_long : (l : List ℕ) (f : Field) → is_record l f && eqb f.tag 2 ≡ true → field_sound l f ≡ true → f.size ≡ 68
+record_long l f p q =
     let h = and-true (is_record l f) (eqb f.tag 2) p in
     let t : f.tag ≡ 2 = eqb-true f.tag 2 h.1 in
     let low = le-ltb 2 f.tag (omega arith) in
     let revision = and_r (leb f.tag 2) (eqb (value l f 0) 1) h.0 in
-    let s = length-test (ltb 2 f.tag) (leb 4 f.size) (eqb (f.size % 4) 0) (eqb (value l f 0) 1) _ (in_ranges f.tag (value l f)) q low revision in
+    let s = length_test (ltb 2 f.tag) (leb 4 f.size) (eqb (f.size % 4) 0) (eqb (value l f 0) 1) _ (in_ranges f.tag (value l f)) q low revision in
     eqb-true f.size (record_size f.tag) s ∙ ap record_size t
 
-among-long : (l : List ℕ) (o : Option (List Field)) (f : Field) → sound_fields l o ≡ true → record_among l 2 o ≡ some f → f.size ≡ 68
-among-long l none f a e = let z : ◌≡◌ {A = ℕ} 0 1 = cc in absurd (omega arith)
-among-long l (some r) f a e =
+among_long : (l : List ℕ) (o : Option (List Field)) (f : Field) → sound_fields l o ≡ true → record_among l 2 o ≡ some f → f.size ≡ 68
+among_long l none f a e = let z : ◌≡◌ {A = ℕ} 0 1 = cc in absurd (omega arith)
+among_long l (some r) f a e =
     let h = first_passes (λ g. is_record l g && eqb g.tag 2) (field_sound l) r f e (and_l (every (field_sound l) r) _ a) in
-    record-long l f h.0 h.1
+    record_long l f h.0 h.1
 
-in-long : (l : List ℕ) (f : Field) → block_sound l ≡ true → record_in l 2 ≡ some f → f.size ≡ 68
+in_long : (l : List ℕ) (f : Field) → block_sound l ≡ true → record_in l 2 ≡ some f → f.size ≡ 68
 unfolding block_sound record_in
-in-long l f a e = among-long l (fields_of l) f (and_r (leb (length l) max_block) (sound_fields l (fields_of l)) a) e
+in_long l f a e = among_long l (fields_of l) f (and_r (leb (length l) max_block) (sound_fields l (fields_of l)) a) e
 
-type-2-fits : (slot block : List ℕ) → (find_record slot block 2).number ≡ 0 → 71 + (find_record slot block 2).start ≤ length (deciding slot block)
-type-2-fits slot block e =
+type_2_fits : (slot block : List ℕ) → (find_record slot block 2).number ≡ 0 → 71 + (find_record slot block 2).start ≤ length (deciding slot block)
+type_2_fits slot block e =
     let z : k ≡ 0 = sym (number_is k (record_in l 2)) ∙ e in
     let c = finds slot block 2 z in
-    go k (record_in l 2) refl (found-fits slot block 2) c.is-there c.is-sound z
+    go k (record_in l 2) refl (found_fits slot block 2) c.is_there c.is_sound_lem z
   where
     l : List ℕ
     l = deciding slot block
@@ -107,51 +107,51 @@ type-2-fits slot block e =
     go : (k : ℕ) (o : Option Field) → record_in l 2 ≡ o → (found_by k o).start + (found_by k o).size ≤ length l → is_none o ≡ false → block_sound l ≡ true
         → k ≡ 0 → 71 + (found_by k o).start ≤ length l
     go zero none i h n b z = absurd (true≢false n)
-    go zero (some f) i h n b z = omega (arith, in-long l f b i)
+    go zero (some f) i h n b z = omega (arith, in_long l f b i)
     go (suc k) o i h n b z = absurd (omega arith)
 
 -- ---- the register values
 
-pub eight-numbers : (current : List ℕ) → registers_bad current ≡ false → length current ≡ 8
-eight-numbers current e = eqb-true (length current) 8 (not-false (eqb (length current) 8) (or-false _ _ (or-false _ _ e).0).0)
+pub eight_numbers : (current : List ℕ) → registers_bad current ≡ false → length current ≡ 8
+eight_numbers current e = eqb-true (length current) 8 (not-false (eqb (length current) 8) (or_false _ _ (or_false _ _ e).0).0)
 
 -- the new values use of a field only where it starts
-by-start : (aer : Bool) (l : List ℕ) (f g : Field) → f.start ≡ g.start → (k : ℕ) (current : List ℕ) → new_values aer l f k current ≡ new_values aer l g k current
-by-start aer l f g e k [] = refl
-by-start aer l f g e k (c ∷ current) =
-    ap₂ {B = List ℕ} (λ (x : ℕ) r. x ∷ r) (ap (λ (n : ℕ). new_value aer l (record { start = n; tag = 0; size = 0 }) k c) e) (by-start aer l f g e (suc k) current)
+by_start : (aer : Bool) (l : List ℕ) (f g : Field) → f.start ≡ g.start → (k : ℕ) (current : List ℕ) → new_values aer l f k current ≡ new_values aer l g k current
+by_start aer l f g e k [] = refl
+by_start aer l f g e k (c ∷ current) =
+    ap₂ {B = List ℕ} (λ (x : ℕ) r. x ∷ r) (ap (λ (n : ℕ). new_value aer l (record { start = n; tag = 0; size = 0 }) k c) e) (by_start aer l f g e (suc k) current)
 
-refused-zeros : (aer : Bool) (l current : List ℕ) (k : ℕ) (o : Option Field) → (k ≡ 0 → ⊥) → replicate 8 0 ≡ values_at k aer l current o
-refused-zeros aer l current zero o n = absurd (n refl)
-refused-zeros aer l current (suc k) o n = refl
+refused_zeros : (aer : Bool) (l current : List ℕ) (k : ℕ) (o : Option Field) → (k ≡ 0 → ⊥) → replicate 8 0 ≡ values_at k aer l current o
+refused_zeros aer l current zero o n = absurd (n refl)
+refused_zeros aer l current (suc k) o n = refl
 
-found-values : (aer : Bool) (l current : List ℕ) (k : ℕ) (o : Option Field) → k ≡ 0 → is_none o ≡ false
+found_values : (aer : Bool) (l current : List ℕ) (k : ℕ) (o : Option Field) → k ≡ 0 → is_none o ≡ false
     → new_values aer l (field_at l (found_by k o).start) 0 current ≡ values_at k aer l current o
-found-values aer l current zero none z n = absurd (true≢false n)
-found-values aer l current zero (some f) z n = by-start aer l (field_at l f.start) f refl 0 current
-found-values aer l current (suc k) o z n = absurd (omega arith)
+found_values aer l current zero none z n = absurd (true≢false n)
+found_values aer l current zero (some f) z n = by_start aer l (field_at l f.start) f refl 0 current
+found_values aer l current (suc k) o z n = absurd (omega arith)
 
 -- ---- what a search answered, and the block that decided, as the code has them
 
 module _ (slot block : List ℕ) (type : ℕ) (r : FoundAt) (e : r ≡ find_record slot block type) where
-  pub number-found : r.number ≡ first_of (record_refusals slot block type)
-  number-found = ap (λ (q : FoundAt). q.number) e ∙ number_is (first_of (record_refusals slot block type)) (record_in (deciding slot block) type)
+  pub number_found : r.number ≡ first_of (record_refusals slot block type)
+  number_found = ap (λ (q : FoundAt). q.number) e ∙ number_is (first_of (record_refusals slot block type)) (record_in (deciding slot block) type)
 
 module _ (slot block : List ℕ) (r : FoundAt) (e : r ≡ find_record slot block 2) (aer : Bool) (current : List ℕ) where
-  pub values-refused : (r.number ≡ 0 → ⊥)
+  pub values_refused : (r.number ≡ 0 → ⊥)
       → replicate 8 0 ≡ values_at (first_of (record_refusals slot block 2)) aer (deciding slot block) current (record_in (deciding slot block) 2)
-  values-refused n =
-      refused-zeros aer (deciding slot block) current (first_of (record_refusals slot block 2)) (record_in (deciding slot block) 2)
-      (λ z. n (number-found slot block 2 r e ∙ z))
+  values_refused n =
+      refused_zeros aer (deciding slot block) current (first_of (record_refusals slot block 2)) (record_in (deciding slot block) 2)
+      (λ z. n (number_found slot block 2 r e ∙ z))
 
   module _ (l : List ℕ) (d : l ≡ deciding slot block) (z : r.number ≡ 0) where
-    pub pairs-inside : 71 + r.start ≤ length l
-    pairs-inside = rw (e, d) (type-2-fits slot block (sym (ap (λ (q : FoundAt). q.number) e) ∙ z))
+    pub pairs_inside : 71 + r.start ≤ length l
+    pairs_inside = rw (e, d) (type_2_fits slot block (sym (ap (λ (q : FoundAt). q.number) e) ∙ z))
 
-    pub values-found : new_values aer l (field_at l r.start) 0 current
+    pub values_found : new_values aer l (field_at l r.start) 0 current
         ≡ values_at (first_of (record_refusals slot block 2)) aer (deciding slot block) current (record_in (deciding slot block) 2)
-    values-found =
-        let none : first_of (record_refusals slot block 2) ≡ 0 = sym (number-found slot block 2 r e) ∙ z in
+    values_found =
+        let none : first_of (record_refusals slot block 2) ≡ 0 = sym (number_found slot block 2 r e) ∙ z in
         ap₂ (λ (m : List ℕ) (q : FoundAt). new_values aer m (field_at m q.start) 0 current) d e
-        ∙ found-values aer (deciding slot block) current (first_of (record_refusals slot block 2)) (record_in (deciding slot block) 2) none
-        (finds slot block 2 none).is-there
+        ∙ found_values aer (deciding slot block) current (first_of (record_refusals slot block 2)) (record_in (deciding slot block) 2) none
+        (finds slot block 2 none).is_there

@@ -8,9 +8,9 @@ use native.Mathlib.Decide.{dec_lt}
 use lib.Bits.{bit_and, bit_or}
 use Rattle.rules.specs.Numbers.{bit, number}
 use Rattle.rules.specs.Records.{size_bit, sizes_kept}
-use Rattle.rules.proofs.Tests.{and-off}
-use Rattle.rules.proofs.Bits.{bit-and, bit-or}
-use Rattle.rules.proofs.Sets.{number_lt, bit-number, bit_high, same_set}
+use Rattle.rules.proofs.Tests.{and_off}
+use Rattle.rules.proofs.Bits.{bit_and_lem, bit_or_lem}
+use Rattle.rules.proofs.Sets.{number_lt, bit_number, bit_high, same_set}
 
 -- one of two, by a test
 pick : (t a b : Bool) → (b && not t) || (a && t) ≡ cond t a b
@@ -30,10 +30,10 @@ module _ (kept rest : ℕ) (k : kept ≡ number 32 size_bit) (r : rest ≡ numbe
 
   low : (i : ℕ) → i < 32 → (bit computed i && bit rest i) || (bit current i && bit kept i) ≡ bit (number 32 chosen) i
   low i p =
-      ap (λ (t : Bool). (bit computed i && t) || (bit current i && bit kept i)) (ap (λ (x : ℕ). bit x i) r ∙ bit-number 32 (λ j. not (size_bit j)) i p)
-      ∙ ap (λ (t : Bool). (bit computed i && not (size_bit i)) || (bit current i && t)) (ap (λ (x : ℕ). bit x i) k ∙ bit-number 32 size_bit i p)
+      ap (λ (t : Bool). (bit computed i && t) || (bit current i && bit kept i)) (ap (λ (x : ℕ). bit x i) r ∙ bit_number 32 (λ j. not (size_bit j)) i p)
+      ∙ ap (λ (t : Bool). (bit computed i && not (size_bit i)) || (bit current i && t)) (ap (λ (x : ℕ). bit x i) k ∙ bit_number 32 size_bit i p)
       ∙ pick (size_bit i) (bit current i) (bit computed i)
-      ∙ sym (bit-number 32 chosen i p)
+      ∙ sym (bit_number 32 chosen i p)
 
   high : (i : ℕ) → 32 ≤ i → (bit computed i && bit rest i) || (bit current i && bit kept i) ≡ bit (number 32 chosen) i
   high i p =
@@ -41,15 +41,15 @@ module _ (kept rest : ℕ) (k : kept ≡ number 32 size_bit) (r : rest ≡ numbe
         bit_high 32 rest i (rw r (number_lt 32 (λ j. not (size_bit j)))) p,
         bit_high 32 kept i (rw k (number_lt 32 size_bit)) p,
         bit_high 32 (number 32 chosen) i (number_lt 32 chosen) p,
-        and-off (bit computed i),
-        and-off (bit current i),
+        and_off (bit computed i),
+        and_off (bit current i),
       )
 
-  pub by-masks : bit_or (bit_and computed rest) (bit_and current kept) ≡ sizes_kept current computed
+  pub by_masks : bit_or (bit_and computed rest) (bit_and current kept) ≡ sizes_kept current computed
   unfolding sizes_kept
-  by-masks =
+  by_masks =
       same_set _ _
-      (λ i. bit-or (bit_and computed rest) (bit_and current kept) i
-      ∙ ap (λ (t : Bool). t || bit (bit_and current kept) i) (bit-and computed rest i)
-      ∙ ap (λ (t : Bool). (bit computed i && bit rest i) || t) (bit-and current kept i)
+      (λ i. bit_or_lem (bit_and computed rest) (bit_and current kept) i
+      ∙ ap (λ (t : Bool). t || bit (bit_and current kept) i) (bit_and_lem computed rest i)
+      ∙ ap (λ (t : Bool). (bit computed i && bit rest i) || t) (bit_and_lem current kept i)
       ∙ elim (dec_lt i 32) [ yes p ↦ low i p | no p ↦ high i (omega arith) ])

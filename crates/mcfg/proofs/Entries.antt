@@ -19,16 +19,16 @@ unfolding rest entries
 rest_all m = refl
 
 -- a whole entry is left: it, and those behind it
-pub rest-step : (m : List ℕ) (i : ℕ) → 16 + i ≤ length m → rest m i ≡ entry_at m i ∷ rest m (16 + i)
+pub rest_step : (m : List ℕ) (i : ℕ) → 16 + i ≤ length m → rest m i ≡ entry_at m i ∷ rest m (16 + i)
 unfolding rest
-rest-step m i h = ap (λ (n : ℕ). entries_from n m i) count
+rest_step m i h = ap (λ (n : ℕ). entries_from n m i) count
   where
     count : (length m - i) / 16 ≡ suc ((length m - (16 + i)) / 16)
     count = omega arith
 
 -- the same of the entry that was read
 pub rest_at : (m : List ℕ) (i : ℕ) (e : Entry) → e ≡ entry_at m i → 16 + i ≤ length m → rest m i ≡ e ∷ rest m (16 + i)
-rest_at m i e is h = rest-step m i h ∙ ap (λ (x : Entry). x ∷ rest m (16 + i)) (sym is)
+rest_at m i e is h = rest_step m i h ∙ ap (λ (x : Entry). x ∷ rest m (16 + i)) (sym is)
 
 -- none is left
 pub rest_end : (m : List ℕ) (i : ℕ) → length m < 16 + i → rest m i ≡ []
@@ -38,14 +38,14 @@ rest_end m i h = ap (λ (n : ℕ). entries_from n m i) count
     count : (length m - i) / 16 ≡ 0
     count = omega arith
 
-from-length : (n : ℕ) (m : List ℕ) (i : ℕ) → length (entries_from n m i) ≡ n
-from-length zero m i = refl
-from-length (suc n) m i = ap suc (from-length n m (16 + i))
+from_length : (n : ℕ) (m : List ℕ) (i : ℕ) → length (entries_from n m i) ≡ n
+from_length zero m i = refl
+from_length (suc n) m i = ap suc (from_length n m (16 + i))
 
 -- how many entries the bytes hold
-pub entries-length : (m : List ℕ) → length (entries m) ≡ (length m - 44) / 16
+pub entries_length : (m : List ℕ) → length (entries m) ≡ (length m - 44) / 16
 unfolding entries
-entries-length m = from-length ((length m - 44) / 16) m 44
+entries_length m = from_length ((length m - 44) / 16) m 44
 
 -- a window ends at 2^64 at most, without a sum that wraps
 pub ends_by : (base end : ℕ) → end < 256 → leb base ((2 ^ 44 - 1 - end) * 2 ^ 20) ≡ leb (bus_end base end) (2 ^ 64)
@@ -58,5 +58,5 @@ pub in_order : (e : Entry) → entry_sound e ≡ true → e.start_bus ≤ e.end_
 in_order e h = leb-true e.start_bus e.end_bus (search (and_l, and_r))
 
 -- its window ends at 2^64 at most
-pub window-end : (e : Entry) → entry_sound e ≡ true → bus_end e.base e.end_bus ≤ 2 ^ 64
-window-end e h = leb-true (bus_end e.base e.end_bus) (2 ^ 64) (search (and_l, and_r))
+pub window_end : (e : Entry) → entry_sound e ≡ true → bus_end e.base e.end_bus ≤ 2 ^ 64
+window_end e h = leb-true (bus_end e.base e.end_bus) (2 ^ 64) (search (and_l, and_r))

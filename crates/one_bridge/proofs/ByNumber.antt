@@ -14,7 +14,7 @@ use Rattle.rules.specs.declared.Bridge.{Bridge}
 use Rattle.rules.specs.declared.Field.{Field}
 use Rattle.rules.specs.declared.BridgeNumber.{BridgeNumber}
 use Rattle.rules.specs.declared.SessionNumber.{SessionNumber}
-use Rattle.rules.proofs.Bits.{mask-test}
+use Rattle.rules.proofs.Bits.{mask_test}
 use Rattle.rules.proofs.Refusals.{NoZero, clear}
 use lib.Dec.{eqb}
 use lib.Bits.{bit_and}
@@ -26,9 +26,9 @@ use borrow.Author.Tests.{leb-false}
 
 -- a place that is not refused fits
 module _ (bridges : ℕ) (s : SessionNumber) (n : BridgeNumber) (b : Bridge) where
-  pub place-good : (bus device function offset width k : ℕ) → BridgeSound bridges n b → k ≡ number_at bridges s n b (address bus device function offset width) → k ≡ 0
+  pub place_good : (bus device function offset width k : ℕ) → BridgeSound bridges n b → k ≡ number_at bridges s n b (address bus device function offset width) → k ≡ 0
       → PlaceFits b bus device function offset
-  place-good bus device function offset width k w e z =
+  place_good bus device function offset width k w e z =
       let c = clear ((1 if absent bridges n) ∷ (2 if foreign s b) ∷ (5 if place_bad device function offset width) ∷ (4 if bus_outside b bus) ∷ []) (omega arith) (sym e ∙ z) in
       tests_left b bus device function offset width c.1.1.0 c.1.1.1.0 (w (leb-false bridges n.0 c.0))
 
@@ -44,13 +44,13 @@ first_four bridges s n b current = (1 if absent bridges n) ∷ (2 if foreign s b
 
 -- the test of `holds` is that of bit 0
 pub hot_plug_bit : (held : ℕ) → not (eqb (bit_and held 1) 0) ≡ bit held 0
-hot_plug_bit held = mask-test held 0
+hot_plug_bit held = mask_test held 0
 
 -- the new values, or zeros, by the number of the record search
-pub values-outcome : (b : Bridge) (slot block current : List ℕ) (aer : Bool) (k m j : ℕ) (v : List ℕ) → aer ≡ bit b.held 3 → k ≡ m → m ≡ j
+pub values_outcome : (b : Bridge) (slot block current : List ℕ) (aer : Bool) (k m j : ℕ) (v : List ℕ) → aer ≡ bit b.held 3 → k ≡ m → m ≡ j
     → v ≡ values_at m aer (deciding slot block) current (record_in (deciding slot block) 2)
     → outcome k (values v) (slot ∷ block ∷ current ∷ []) ≡ outcome_by j b (register_values slot block current)
-values-outcome b slot block current aer k m j v a e f g =
+values_outcome b slot block current aer k m j v a e f g =
     ap₂ (λ (n : ℕ) (w : List ℕ). outcome n (values w) (slot ∷ block ∷ current ∷ [])) e (g ∙ ap (λ (q : Bool). values_at m q (deciding slot block) current (record_in (deciding slot block) 2)) a)
     ∙ go m ∙ ap (λ (n : ℕ). outcome_by n b (register_values slot block current)) f
   where

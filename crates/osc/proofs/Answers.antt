@@ -13,16 +13,16 @@ use Rattle.rules.specs.declared.Bridge.{Bridge}
 use Rattle.osc.specs.Granted.{granted_answer}
 
 -- zeros without the first k of them
-drop-zeros : (k n : ℕ) → drop {A = ℕ} k (replicate n 0) ≡ replicate (n - k) 0
-drop-zeros zero n = ap (λ (m : ℕ). replicate {A = ℕ} m 0) (less n)
+drop_zeros : (k n : ℕ) → drop {A = ℕ} k (replicate n 0) ≡ replicate (n - k) 0
+drop_zeros zero n = ap (λ (m : ℕ). replicate {A = ℕ} m 0) (less n)
   where
     less : (n : ℕ) → n ≡ n - 0
     less n = omega arith
-drop-zeros (suc k) zero = ap (λ (m : ℕ). replicate {A = ℕ} m 0) (none k)
+drop_zeros (suc k) zero = ap (λ (m : ℕ). replicate {A = ℕ} m 0) (none k)
   where
     none : (k : ℕ) → 0 ≡ 0 - suc k
     none k = omega arith
-drop-zeros (suc k) (suc n) = drop-zeros k n ∙ ap (λ (m : ℕ). replicate {A = ℕ} m 0) (both n k)
+drop_zeros (suc k) (suc n) = drop_zeros k n ∙ ap (λ (m : ℕ). replicate {A = ℕ} m 0) (both n k)
   where
     both : (n k : ℕ) → n - k ≡ suc n - suc k
     both n k = omega arith
@@ -38,22 +38,22 @@ pub all_right : (a : List ℕ) (x n at : ℕ) → 4 ≤ n → n ≤ at → lengt
 all_right a x n at f h l i = sym (take_all at a (omega arith)) ∙ i ∙ take_all at (error_bytes x n) (simp length-replicate (omega arith))
 
 -- zeros from `at` on
-zeros-left : (x n at : ℕ) → 4 ≤ at → drop at (error_bytes x n) ≡ replicate (n - 4 - (at - 4)) 0
-zeros-left x n at f = ap (λ (k : ℕ). drop k (error_bytes x n)) (past-status at f) ∙ drop-zeros (at - 4) (n - 4)
+zeros_left : (x n at : ℕ) → 4 ≤ at → drop at (error_bytes x n) ≡ replicate (n - 4 - (at - 4)) 0
+zeros_left x n at f = ap (λ (k : ℕ). drop k (error_bytes x n)) (past_status at f) ∙ drop_zeros (at - 4) (n - 4)
   where
-    past-status : (at : ℕ) → 4 ≤ at → at ≡ suc (suc (suc (suc (at - 4))))
-    past-status at f = omega arith
+    past_status : (at : ℕ) → 4 ≤ at → at ≡ suc (suc (suc (suc (at - 4))))
+    past_status at f = omega arith
 
-zero-dword : (m : ℕ) → 4 ≤ m → take 4 (replicate m 0) ≡ le32 0
-zero-dword m f = ap (λ (k : ℕ). take {A = ℕ} 4 (replicate k 0)) (four-more m f)
+zero_dword : (m : ℕ) → 4 ≤ m → take 4 (replicate m 0) ≡ le32 0
+zero_dword m f = ap (λ (k : ℕ). take {A = ℕ} 4 (replicate k 0)) (four_more m f)
   where
-    four-more : (m : ℕ) → 4 ≤ m → m ≡ suc (suc (suc (suc (m - 4))))
-    four-more m f = omega arith
+    four_more : (m : ℕ) → 4 ≤ m → m ≡ suc (suc (suc (suc (m - 4))))
+    four_more m f = omega arith
 
 -- a DWORD of 0 more
-pub more-right : (a : List ℕ) (x n at : ℕ) (a₁ : List ℕ) → 4 ≤ at → at + 4 ≤ n → length a ≡ n → a₁ ≡ take at a ++ le32 0 ++ drop (4 + at) a
+pub more_right : (a : List ℕ) (x n at : ℕ) (a₁ : List ℕ) → 4 ≤ at → at + 4 ≤ n → length a ≡ n → a₁ ≡ take at a ++ le32 0 ++ drop (4 + at) a
     → take at a ≡ take at (error_bytes x n) → take (at + 4) a₁ ≡ take (at + 4) (error_bytes x n)
-more-right a x n at a₁ f h l e i =
+more_right a x n at a₁ f h l e i =
     ap (take (at + 4)) e ∙ front ∙ ap (λ (y : List ℕ). y ++ le32 0) i ∙ sym back
   where
     long : length (take at a ++ le32 0) ≡ at + 4
@@ -65,28 +65,28 @@ more-right a x n at a₁ f h l e i =
     back : take (at + 4) (error_bytes x n) ≡ take at (error_bytes x n) ++ le32 0
     back =
         take-add at 4 (error_bytes x n)
-        ∙ ap (λ (y : List ℕ). take at (error_bytes x n) ++ y) (ap (take 4) (zeros-left x n at f) ∙ zero-dword (n - 4 - (at - 4)) (omega arith))
+        ∙ ap (λ (y : List ℕ). take at (error_bytes x n) ++ y) (ap (take 4) (zeros_left x n at f) ∙ zero_dword (n - 4 - (at - 4)) (omega arith))
 
 module _ (b : Bridge) (revision count : ℕ) (uuid caps : List ℕ) where
   -- an error: its status, zeros, and nothing added
-  pub error-answer : (status : ℕ) (a : List ℕ) → recognised revision count uuid ≡ false
+  pub error_answer : (status : ℕ) (a : List ℕ) → recognised revision count uuid ≡ false
       → status ≡ cond (recognised revision count uuid) 0 (error_status revision uuid) → length a ≡ 4 * count
       → le32 status ++ replicate (length a - 4) 0 ≡ osc_answer b revision count uuid caps
   unfolding osc_answer
-  error-answer status a r e h = rw (r, e, r, h)
+  error_answer status a r e h = rw (r, e, r, h)
 
-  pub error-after : recognised revision count uuid ≡ false → holding b ≡ osc_after b revision count uuid caps
+  pub error_after : recognised revision count uuid ≡ false → holding b ≡ osc_after b revision count uuid caps
   unfolding osc_after
-  error-after r = rw r
+  error_after r = rw r
 
   -- a recognised call: status, support and the granted bits, which join the held ones where it is no query
-  pub granted-answer : recognised revision count uuid ≡ true → granted_answer b caps ≡ osc_answer b revision count uuid caps
+  pub granted_answer_lem : recognised revision count uuid ≡ true → granted_answer b caps ≡ osc_answer b revision count uuid caps
   unfolding osc_answer
-  granted-answer e = rw e
+  granted_answer_lem e = rw e
 
-  pub granted-after : recognised revision count uuid ≡ true → cond (query caps) (holding b) (joined b caps) ≡ osc_after b revision count uuid caps
+  pub granted_after : recognised revision count uuid ≡ true → cond (query caps) (holding b) (joined b caps) ≡ osc_after b revision count uuid caps
   unfolding osc_after
-  granted-after r = rw r (go (query caps))
+  granted_after r = rw r (go (query caps))
     where
       go : (q : Bool) → cond q (holding b) (joined b caps) ≡ cond (not q) (joined b caps) (holding b)
       go true = refl

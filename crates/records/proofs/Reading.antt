@@ -14,8 +14,8 @@ use Rattle.rules.specs.declared.Field.{Field}
 use Rattle.records.specs.Fields.{field_read}
 use Rattle.records.specs.declared.FieldRead.TheVariants.{Whole, End}
 
-pub read-end : (l : List ℕ) (i : ℕ) → length l < 3 + (field_at l i).size + i → End ≡ field_read l i
-read-end l i h = rw (lt-leb (3 + (field_at l i).size + i) (length l) h)
+pub read_end : (l : List ℕ) (i : ℕ) → length l < 3 + (field_at l i).size + i → End ≡ field_read l i
+read_end l i h = rw (lt-leb (3 + (field_at l i).size + i) (length l) h)
 
 pub read_whole : (l : List ℕ) (i n : ℕ) → n ≡ (field_at l i).size → 3 + n + i ≤ length l → Whole (record { start = i; tag = byte l i; size = n }) ≡ field_read l i
 read_whole l i n e h =
@@ -30,8 +30,8 @@ whole_is l i f e = go (leb (3 + (field_at l i).size + i) (length l)) e
     go true q = cc
     go false q = cc
 
-pub whole-fits : (l : List ℕ) (i : ℕ) (f : Field) → Whole f ≡ field_read l i → 3 + (field_at l i).size + i ≤ length l
-whole-fits l i f e = go (leb (3 + (field_at l i).size + i) (length l)) refl e
+pub whole_fits : (l : List ℕ) (i : ℕ) (f : Field) → Whole f ≡ field_read l i → 3 + (field_at l i).size + i ≤ length l
+whole_fits l i f e = go (leb (3 + (field_at l i).size + i) (length l)) refl e
   where
     go : (t : Bool) → leb (3 + (field_at l i).size + i) (length l) ≡ t → Whole f ≡ cond t (Whole (field_at l i)) End → 3 + (field_at l i).size + i ≤ length l
     go true p q = leb-true (3 + (field_at l i).size + i) (length l) p
@@ -41,11 +41,11 @@ whole-fits l i f e = go (leb (3 + (field_at l i).size + i) (length l)) refl e
 pub field_fits : (l : List ℕ) (i : ℕ) (f : Field) → Whole f ≡ field_read l i → (3 + f.size + i ≤ length l) × (f.start ≡ i)
 field_fits l i f e =
     let q = whole_is l i f e in
-    (subst (λ (g : Field). 3 + g.size + i ≤ length l) (sym q) (whole-fits l i f e), ap (λ (g : Field). g.start) q)
+    (subst (λ (g : Field). 3 + g.size + i ≤ length l) (sym q) (whole_fits l i f e), ap (λ (g : Field). g.start) q)
 
 -- the end of the walk is met where the field runs past the end
-pub end-past : (l : List ℕ) (i : ℕ) → End ≡ field_read l i → leb (3 + (field_at l i).size + i) (length l) ≡ false
-end-past l i e = go (leb (3 + (field_at l i).size + i) (length l)) refl e
+pub end_past : (l : List ℕ) (i : ℕ) → End ≡ field_read l i → leb (3 + (field_at l i).size + i) (length l) ≡ false
+end_past l i e = go (leb (3 + (field_at l i).size + i) (length l)) refl e
   where
     go : (t : Bool) → leb (3 + (field_at l i).size + i) (length l) ≡ t → End ≡ cond t (Whole (field_at l i)) End → t ≡ false
     go true p q = cc

@@ -21,8 +21,8 @@ use Rattle.records.specs.Fields.{field_read, judged, none_seen, has, marked, cho
 use Rattle.records.specs.declared.FieldRead.TheVariants.{Whole, End}
 use Rattle.records.specs.declared.Judged.TheVariants.{Skip, Record, Bad}
 use Rattle.records.specs.declared.Seen.{Seen}
-use Rattle.records.proofs.Reading.{whole_is, whole-fits, field_fits, end-past}
-use Rattle.records.proofs.Passes.{pass_all, pass-skip, pass-record, pass-twice, pass-bad, pass-answer}
+use Rattle.records.proofs.Reading.{whole_is, whole_fits, field_fits, end_past}
+use Rattle.records.proofs.Passes.{pass_all, pass_skip, pass_record, pass_twice, pass_bad, pass_answer}
 
 -- ---- the fields from a byte on
 
@@ -31,13 +31,13 @@ no_more : (n : ℕ) (l : List ℕ) (i : ℕ) → i ≡ length l → fields_from 
 no_more zero l i e = rw (eq-eqb i (length l) e)
 no_more (suc n) l i e = rw (eq-eqb i (length l) e)
 
-before-end : (l : List ℕ) (i : ℕ) → i < length l → eqb i (length l) ≡ false
-before-end l i h = ne_eqb i (length l) (λ e. omega arith)
+before_end : (l : List ℕ) (i : ℕ) → i < length l → eqb i (length l) ≡ false
+before_end l i h = ne_eqb i (length l) (λ e. omega arith)
 
 -- a field that runs past the end ends the walk
 cut : (n : ℕ) (l : List ℕ) (i : ℕ) → i < length l → End ≡ field_read l i → fields_from n l i ≡ none
-cut zero l i h e = rw (before-end l i h)
-cut (suc n) l i h e = rw (before-end l i h, end-past l i e)
+cut zero l i h e = rw (before_end l i h)
+cut (suc n) l i h e = rw (before_end l i h, end_past l i e)
 
 -- a field read whole, and the fields after it
 record After (n : ℕ) (l : List ℕ) (i : ℕ) (f : Field) : Type 0 where
@@ -49,7 +49,7 @@ after : (n : ℕ) (l : List ℕ) (i : ℕ) (f : Field) → i < length l → leng
 after zero l i f h k e = absurd (omega arith)
 after (suc n) l i f h k e =
     subst (After (suc n) l i) (sym (whole_is l i f e))
-    (record { left = n; enough = omega arith; is = rw (before-end l i h, le-leb (3 + (field_at l i).size + i) (length l) (whole-fits l i f e)) })
+    (record { left = n; enough = omega arith; is = rw (before_end l i h, le-leb (3 + (field_at l i).size + i) (length l) (whole_fits l i f e)) })
 
 -- ---- what is left of the walk
 
@@ -69,7 +69,7 @@ answer : (l : List ℕ) (type : ℕ) (o : Option (List Field))
     → pass l type none_seen (refused 9) o
     ≡ found_by (first_of ((8 if not (sound_fields l o)) ∷ (9 if is_none (record_among l type o)) ∷ [])) (record_among l type o)
 answer l type none = refl
-answer l type (some r) = pass-answer (field_sound l) (is_record l) type (λ f p. and_l (leb f.tag 2) (eqb (value l f 0) 1) p) r
+answer l type (some r) = pass_answer (field_sound l) (is_record l) type (λ f p. and_l (leb f.tag 2) (eqb (value l f 0) 1) p) r
 
 -- a block that is too long is refused
 pub too_long : (l : List ℕ) (type : ℕ) → ltb max_block (length l) ≡ true → refused 8 ≡ find_record [] l type
@@ -77,9 +77,9 @@ unfolding block_sound
 too_long l type e = rw (lt-leb (length l) max_block (ltb-true max_block (length l) e))
 
 -- before the first field
-pub at-start : (l : List ℕ) (type : ℕ) → ltb max_block (length l) ≡ false → Left l type 0 none_seen (refused 9)
+pub at_start : (l : List ℕ) (type : ℕ) → ltb max_block (length l) ≡ false → Left l type 0 none_seen (refused 9)
 unfolding block_sound record_in fields_of
-at-start l type e =
+at_start l type e =
     record {
       fuel = length l;
       enough = omega arith;
@@ -89,8 +89,8 @@ at-start l type e =
 
 module _ (l : List ℕ) (type i : ℕ) (s : Seen) (found : FoundAt) (w : Left l type i s found) where
   -- after the last field what was found is the answer
-  pub at-end : length l ≤ i → found ≡ find_record [] l type
-  at-end h = ap (pass l type s found) (sym (no_more w.fuel l i (omega arith))) ∙ w.gives
+  pub at_end : length l ≤ i → found ≡ find_record [] l type
+  at_end h = ap (pass l type s found) (sym (no_more w.fuel l i (omega arith))) ∙ w.gives
 
   module _ (h : i < length l) where
     -- a field that runs past the end refuses the block
@@ -107,10 +107,10 @@ module _ (l : List ℕ) (type i : ℕ) (s : Seen) (found : FoundAt) (w : Left l 
 
       -- a broken rule refuses the block, and so does a second record of a type
       pub bad : Bad ≡ judged (field_sound l f) (is_record l f) → refused 8 ≡ find_record [] l type
-      bad j = pass-bad (field_sound l) (is_record l) type s found f (fields_from rest.left l (3 + f.size + i)) j ∙ here
+      bad j = pass_bad (field_sound l) (is_record l) type s found f (fields_from rest.left l (3 + f.size + i)) j ∙ here
 
       pub twice : Record ≡ judged (field_sound l f) (is_record l f) → has s f.tag ≡ true → refused 8 ≡ find_record [] l type
-      twice j k = pass-twice (field_sound l) (is_record l) type s found f (fields_from rest.left l (3 + f.size + i)) j k ∙ here
+      twice j k = pass_twice (field_sound l) (is_record l) type s found f (fields_from rest.left l (3 + f.size + i)) j k ∙ here
 
       -- the walk goes on after a skipped field, and after a record
       pub skipped : Skip ≡ judged (field_sound l f) (is_record l f) → Left l type (3 + f.size + i) s found
@@ -119,7 +119,7 @@ module _ (l : List ℕ) (type i : ℕ) (s : Seen) (found : FoundAt) (w : Left l 
             fuel = rest.left;
             enough = rest.enough;
             inside = (field_fits l i f e).0;
-            gives = sym (pass-skip (field_sound l) (is_record l) type s found f (fields_from rest.left l (3 + f.size + i)) j) ∙ here;
+            gives = sym (pass_skip (field_sound l) (is_record l) type s found f (fields_from rest.left l (3 + f.size + i)) j) ∙ here;
           }
 
       pub recorded : Record ≡ judged (field_sound l f) (is_record l f) → has s f.tag ≡ false
@@ -129,5 +129,5 @@ module _ (l : List ℕ) (type i : ℕ) (s : Seen) (found : FoundAt) (w : Left l 
             fuel = rest.left;
             enough = rest.enough;
             inside = (field_fits l i f e).0;
-            gives = sym (pass-record (field_sound l) (is_record l) type s found f (fields_from rest.left l (3 + f.size + i)) j k) ∙ here;
+            gives = sym (pass_record (field_sound l) (is_record l) type s found f (fields_from rest.left l (3 + f.size + i)) j k) ∙ here;
           }

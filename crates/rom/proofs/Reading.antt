@@ -14,13 +14,13 @@ use Rattle.rules.specs.Numbers.{byte, word, same_bytes}
 use Rattle.rules.specs.Rom.{image_signature, structure_signature, structure_at, image_at, image_sound}
 use Rattle.rules.specs.declared.Image.{Image}
 use Rattle.rules.proofs.Tests.{fails}
-use Rattle.rules.proofs.Rom.{SoundImage, sound-image, unit}
+use Rattle.rules.proofs.Rom.{SoundImage, sound_image, unit}
 use Rattle.rom.specs.Images.{image_read}
 use Rattle.rom.specs.declared.ImageRead.TheVariants.{Sound, Broken}
 
 -- n bytes from byte i on, as the code cuts them
-pub from-to : (l s : List ℕ) (i n : ℕ) (q : Bool) → q ≡ same_bytes (take (n + i - i) (drop i l)) s → same_bytes (take n (drop i l)) s ≡ q
-from-to l s i n q e = sym (e ∙ ap (λ (k : ℕ). same_bytes (take k (drop i l)) s) (add-sub_cancel n i))
+pub from_to : (l s : List ℕ) (i n : ℕ) (q : Bool) → q ≡ same_bytes (take (n + i - i) (drop i l)) s → same_bytes (take n (drop i l)) s ≡ q
+from_to l s i n q e = sym (e ∙ ap (λ (k : ℕ). same_bytes (take k (drop i l)) s) (add-sub_cancel n i))
 
 -- the two bytes of a signature, read as a number
 pub as_number : (l : List ℕ) (i : ℕ) → 2 + i ≤ length l → ((k : ℕ) → byte l k < 256) → same_bytes (take 2 (drop i l)) image_signature ≡ eqb (word l i) 0xAA55
@@ -40,38 +40,38 @@ as_number l i h bytes =
 
 module _ (l : List ℕ) (i : ℕ) where
   broken : (SoundImage l (image_at l i) → ⊥) → Broken ≡ image_read l i
-  broken n = rw (fails (image_sound l (image_at l i)) (λ e. n (sound-image l (image_at l i) e)))
+  broken n = rw (fails (image_sound l (image_at l i)) (λ e. n (sound_image l (image_at l i) e)))
 
   -- one thing fails
 
-  pub other-signature : same_bytes (take 2 (drop i l)) image_signature ≡ false → Broken ≡ image_read l i
-  other-signature h = broken (λ s. true≢false (sym s.signature ∙ h))
+  pub other_signature : same_bytes (take 2 (drop i l)) image_signature ≡ false → Broken ≡ image_read l i
+  other_signature h = broken (λ s. true≢false (sym s.signature ∙ h))
 
   module _ (structure : ℕ) (at : structure ≡ structure_at l i) where
-    pub structure-cut : length l < 24 + structure → Broken ≡ image_read l i
-    structure-cut h = broken (λ s. absurd (omega (arith, s.structure-ends, at)))
+    pub structure_cut : length l < 24 + structure → Broken ≡ image_read l i
+    structure_cut h = broken (λ s. absurd (omega (arith, s.structure_ends, at)))
 
-    pub other-letters : same_bytes (take 4 (drop structure l)) structure_signature ≡ false → Broken ≡ image_read l i
-    other-letters h = broken (λ s. true≢false (sym s.letters ∙ sym (ap (λ (n : ℕ). same_bytes (take 4 (drop n l)) structure_signature) at) ∙ h))
+    pub other_letters : same_bytes (take 4 (drop structure l)) structure_signature ≡ false → Broken ≡ image_read l i
+    other_letters h = broken (λ s. true≢false (sym s.letters ∙ sym (ap (λ (n : ℕ). same_bytes (take 4 (drop n l)) structure_signature) at) ∙ h))
 
     module _ (size : ℕ) (long : size ≡ (image_at l i).size) where
       pub no_length : size ≡ 0 → Broken ≡ image_read l i
-      no_length h = broken (λ s. s.not-empty (sym long ∙ h))
+      no_length h = broken (λ s. s.not_empty (sym long ∙ h))
 
-      pub image-cut : length l < size + i → Broken ≡ image_read l i
-      image-cut h = broken (λ s. absurd (omega (arith, s.ends, long)))
+      pub image_cut : length l < size + i → Broken ≡ image_read l i
+      image_cut h = broken (λ s. absurd (omega (arith, s.ends, long)))
 
       -- all holds
       pub whole : same_bytes (take 2 (drop i l)) image_signature ≡ true → same_bytes (take 4 (drop structure l)) structure_signature ≡ true
           → size + i ≤ length l → 24 + structure ≤ length l → (size ≡ 0 → ⊥) → Sound (record { start = i; structure = structure; size = size }) ≡ image_read l i
-      whole signature letters ends structure-ends not-empty =
+      whole signature letters ends structure_ends not_empty =
           ap Sound image ∙ rw (sym (ap (image_sound l) image) ∙ sound)
         where
           image : record { start = i; structure = structure; size = size } ≡ image_at l i
           image = rw (at, long)
 
           sound : image_sound l (record { start = i; structure = structure; size = size }) ≡ true
-          sound = rw (signature, letters, le-leb (size + i) (length l) ends, le-leb (24 + structure) (length l) structure-ends, ne_eqb size 0 not-empty)
+          sound = rw (signature, letters, le-leb (size + i) (length l) ends, le-leb (24 + structure) (length l) structure_ends, ne_eqb size 0 not_empty)
 
 -- ---- what was read
 
@@ -84,15 +84,15 @@ is_read l i m e = go (image_sound l (image_at l i)) e
     go false q = let z : ◌≡◌ {A = ℕ} 0 1 = cc in absurd (omega arith)
 
 -- it starts there, and it and its structure lie inside the ROM
-pub image-fits : (l : List ℕ) (i : ℕ) (m : Image) → Sound m ≡ image_read l i
+pub image_fits : (l : List ℕ) (i : ℕ) (m : Image) → Sound m ≡ image_read l i
     → (m.size + i ≤ length l) × (24 + m.structure ≤ length l) × (512 ≤ m.size) × (m.start ≡ i)
-image-fits l i m e =
+image_fits l i m e =
     let r = is_read l i m e in
-    let s = sound-image l (image_at l i) r.1 in
-    subst (λ (x : Image). (x.size + i ≤ length l) × (24 + x.structure ≤ length l) × (512 ≤ x.size) × (x.start ≡ i)) (sym r.0) (s.ends, s.structure-ends, unit l i s, refl)
+    let s = sound_image l (image_at l i) r.1 in
+    subst (λ (x : Image). (x.size + i ≤ length l) × (24 + x.structure ≤ length l) × (512 ≤ x.size) × (x.start ≡ i)) (sym r.0) (s.ends, s.structure_ends, unit l i s, refl)
 
-pub is-broken : (l : List ℕ) (i : ℕ) → Broken ≡ image_read l i → image_sound l (image_at l i) ≡ false
-is-broken l i e = go (image_sound l (image_at l i)) e
+pub is_broken : (l : List ℕ) (i : ℕ) → Broken ≡ image_read l i → image_sound l (image_at l i) ≡ false
+is_broken l i e = go (image_sound l (image_at l i)) e
   where
     go : (t : Bool) → Broken ≡ cond t (Sound (image_at l i)) Broken → t ≡ false
     go true q = cc

@@ -17,10 +17,10 @@ use Rattle.rules.specs.Rom.{image_at, is_last, images_from, images_of, image_sou
 use Rattle.rules.specs.declared.FoundAt.{FoundAt}
 use Rattle.rules.specs.declared.Image.{Image}
 use Rattle.rules.proofs.Tests.{fails}
-use Rattle.rules.proofs.Rom.{SoundImage, sound-image, unit, enough, any-bound, image_part_lem}
+use Rattle.rules.proofs.Rom.{SoundImage, sound_image, unit, enough, any_bound, image_part_lem}
 use Rattle.rom.specs.Images.{image_read, chain_sound, chosen_if}
 use Rattle.rom.specs.declared.ImageRead.TheVariants.{Sound, Broken}
-use Rattle.rom.proofs.Reading.{is_read, is-broken}
+use Rattle.rom.proofs.Reading.{is_read, is_broken}
 
 -- ---- what a list of images gives: no last image, and an image that is not sound, give the same
 
@@ -53,13 +53,13 @@ module _ (l : List ℕ) {A : Type 0} (g : Giving l A) (all : A) where
     refuses e = sym (breaks w.fuel i e) ∙ w.gives
 
     pub ended : Broken ≡ image_read l i → g.bad ≡ all
-    ended e = refuses (is-broken l i e)
+    ended e = refuses (is_broken l i e)
 
     -- at the end there is no room for an image
-    pub at-end : length l < 26 + i → g.bad ≡ all
-    at-end h =
+    pub at_end : length l < 26 + i → g.bad ≡ all
+    at_end h =
         refuses (fails (image_sound l (image_at l i)) (λ e.
-        let s = sound-image l (image_at l i) e in
+        let s = sound_image l (image_at l i) e in
         absurd (omega (arith, s.ends, unit l i s))))
 
     -- an image that was read, and those after it
@@ -71,7 +71,7 @@ module _ (l : List ℕ) {A : Type 0} (g : Giving l A) (all : A) where
       sound = subst (λ (x : Image). image_sound l x ≡ true) (sym is) (is_read l i m e).1
 
       good : SoundImage l (image_at l i)
-      good = sound-image l (image_at l i) (is_read l i m e).1
+      good = sound_image l (image_at l i) (is_read l i m e).1
 
       -- the last gives what all do
       pub at_last : is_last l m ≡ true → g.of (some (m ∷ [])) ≡ all
@@ -127,14 +127,14 @@ module _ (l : List ℕ) {A : Type 0} (g : Giving l A) (all : A) where
 abbrev pub chain : (l : List ℕ) → Giving l Bool
 chain l = record { of = sound_images l; bad = false; no_last = refl; not_sound = λ m r e. rw e }
 
-pub chain-from : (l : List ℕ) (i : ℕ) → i ≤ length l → Left l (chain l) (chain_sound l i) i
+pub chain_from : (l : List ℕ) (i : ℕ) → i ≤ length l → Left l (chain l) (chain_sound l i) i
 unfolding chain_sound
-chain-from l i h = record { fuel = length l / 512; bound = omega (arith, enough (length l)); inside = h; gives = refl }
+chain_from l i h = record { fuel = length l / 512; bound = omega (arith, enough (length l)); inside = h; gives = refl }
 
 -- a sound image adds nothing
-pub same-chain : (l : List ℕ) (m : Image) → image_sound l m ≡ true → (o : Option (List Image)) → sound_images l (prepend m o) ≡ sound_images l o
-same-chain l m e none = refl
-same-chain l m e (some r) = rw e
+pub same_chain : (l : List ℕ) (m : Image) → image_sound l m ≡ true → (o : Option (List Image)) → sound_images l (prepend m o) ≡ sound_images l o
+same_chain l m e none = refl
+same_chain l m e (some r) = rw e
 
 -- ---- what the search answers
 
@@ -170,9 +170,9 @@ module _ (l : List ℕ) (vendor device code_type : ℕ) where
   too_large e = rw (lt-leb (length l) max_rom (ltb-true max_rom (length l) e))
 
   -- before the first image
-  pub at-start : ltb max_rom (length l) ≡ false → Left l answer (find_image l vendor device code_type) 0
+  pub at_start : ltb max_rom (length l) ≡ false → Left l answer (find_image l vendor device code_type) 0
   unfolding rom_sound image_in images_of
-  at-start e =
+  at_start e =
       record {
         fuel = length l / 512;
         bound = enough (length l);
@@ -182,9 +182,9 @@ module _ (l : List ℕ) (vendor device code_type : ℕ) where
 
   module _ (m : Image) (sound : image_sound l m ≡ true) where
     -- an image that is not asked for adds nothing; the last of these gives 13
-    pub no-match : asked m ≡ false → (o : Option (List Image)) → answers (prepend m o) ≡ answers o
-    no-match a none = refl
-    no-match a (some r) = rw (sound, a)
+    pub no_match : asked m ≡ false → (o : Option (List Image)) → answers (prepend m o) ≡ answers o
+    no_match a none = refl
+    no_match a (some r) = rw (sound, a)
 
     pub none_found : asked m ≡ false → refused 13 ≡ answers (some (m ∷ []))
     none_found a = rw (sound, a)
@@ -194,29 +194,29 @@ module _ (l : List ℕ) (vendor device code_type : ℕ) where
     match a none = refl
     match a (some r) = rw (sound, a)
 
-    pub last-match : asked m ≡ true → image_part m ≡ answers (some (m ∷ []))
-    last-match a = rw (sound, a)
+    pub last_match : asked m ≡ true → image_part m ≡ answers (some (m ∷ []))
+    last_match a = rw (sound, a)
 
   module _ (i : ℕ) (w : Left l answer (find_image l vendor device code_type) i) (m : Image) (e : Sound m ≡ image_read l i) (a : asked m ≡ true) where
-    pub is-chosen : chosen_if (is_last l m || chain_sound l (m.size + i)) m ≡ find_image l vendor device code_type
+    pub is_chosen : chosen_if (is_last l m || chain_sound l (m.size + i)) m ≡ find_image l vendor device code_type
     unfolding chain_sound
-    is-chosen = go (is_last l m) refl
+    is_chosen = go (is_last l m) refl
       where
         fine : image_sound l m ≡ true
         fine = sound l answer (find_image l vendor device code_type) i w m e
 
         go : (q : Bool) → is_last l m ≡ q → chosen_if (q || chain_sound l (m.size + i)) m ≡ find_image l vendor device code_type
-        go true h = last-match m fine a ∙ at_last l answer (find_image l vendor device code_type) i w m e h
+        go true h = last_match m fine a ∙ at_last l answer (find_image l vendor device code_type) i w m e h
         go false h =
             let r = rest l answer (find_image l vendor device code_type) i w m e h in
-            ap (λ (t : Bool). chosen_if t m) (any-bound l (m.size + i) (length l / 512) r.fuel (omega (arith, enough (length l))) r.bound)
+            ap (λ (t : Bool). chosen_if t m) (any_bound l (m.size + i) (length l / 512) r.fuel (omega (arith, enough (length l))) r.bound)
             ∙ match m fine a (images_from r.fuel l (m.size + i))
             ∙ r.gives
 
 -- ---- the part lies inside the ROM
 
-pub found-fits : (l : List ℕ) (vendor device code_type : ℕ) → (find_image l vendor device code_type).start + (find_image l vendor device code_type).size ≤ length l
-found-fits l vendor device code_type =
+pub found_fits : (l : List ℕ) (vendor device code_type : ℕ) → (find_image l vendor device code_type).start + (find_image l vendor device code_type).size ≤ length l
+found_fits l vendor device code_type =
     go (first_of (image_refusals l vendor device code_type)) (image_in l vendor device code_type) (λ e. (image_part_lem l vendor device code_type e).0)
   where
     go : (k : ℕ) (o : Option Image) → ((part_by image_part k o).number ≡ 0 → (part_by image_part k o).start + (part_by image_part k o).size ≤ length l)

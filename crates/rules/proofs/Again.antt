@@ -15,9 +15,9 @@ use Rattle.rules.specs.Numbers.{le16, le32, dwords}
 use Rattle.rules.specs.Records.{field_at, fields_from, fields_of, value, is_record, record_size, record_among, record_in}
 use Rattle.rules.specs.Writer.{Setting, pci_numbers, pci_x_numbers, express_numbers, if_present, present_in, record_bytes, laid_down, numbers_from, numbers_of, flag_of, pci_of, pci_x_of, express_of, read_settings, are_bytes}
 use Rattle.rules.specs.declared.Field.{Field}
-use Rattle.rules.proofs.Bytes.{word-again, dword-again}
+use Rattle.rules.proofs.Bytes.{word_again, dword_again}
 use Rattle.rules.proofs.Rising.{none_below}
-use Rattle.rules.proofs.Whole.{setting_at, Whole, Fields, is_of, size_is, numbers-by, is-record}
+use Rattle.rules.proofs.Whole.{setting_at, Whole, Fields, is_of, size_is, numbers_by, is_record_lem}
 use Rattle.rules.proofs.Laying.{one_by_one}
 
 -- ---- read
@@ -30,10 +30,10 @@ again (suc (suc t)) v = express_numbers (express_of v)
 
 module _ (l : List ℕ) where
   -- nothing is lost, since the revision is 1
-  numbers-same : (t : ℕ) (f : Field) → value l f 0 ≡ 1 → again t (numbers_from (record_size t / 4) 0 l f) ≡ numbers_from (record_size t / 4) 0 l f
-  numbers-same zero f e = rw e
-  numbers-same (suc zero) f e = rw e
-  numbers-same (suc (suc t)) f e = rw e
+  numbers_same : (t : ℕ) (f : Field) → value l f 0 ≡ 1 → again t (numbers_from (record_size t / 4) 0 l f) ≡ numbers_from (record_size t / 4) 0 l f
+  numbers_same zero f e = rw e
+  numbers_same (suc zero) f e = rw e
+  numbers_same (suc (suc t)) f e = rw e
 
   -- what is read of a type, by the field found
   abbrev read_as : ℕ → Option Field → List Setting
@@ -42,7 +42,7 @@ module _ (l : List ℕ) where
   -- of a whole record it is that record
   read_same : (f : Field) → Whole l f → read_as f.tag (some f) ≡ setting_at l f ∷ []
   read_same f w =
-      let e = ap (again f.tag) (numbers-by l f w) ∙ numbers-same f.tag f w.revision ∙ sym (numbers-by l f w) in
+      let e = ap (again f.tag) (numbers_by l f w) ∙ numbers_same f.tag f w.revision ∙ sym (numbers_by l f w) in
       ap (λ (v : List ℕ). record { type = f.tag; numbers = v } ∷ []) e
 
   -- what is read of n types, from type t on, from a list of fields
@@ -74,35 +74,35 @@ module _ (l : List ℕ) where
           rw (none_below (λ (g : Field). g.tag) (Whole l) t (suc f.tag) (omega arith) r w.2) (ih (f ∷ r) (omega arith, w.1, w.2))
 
   -- with whole records alone, the record search goes by the type alone
-  search-same : (type t : ℕ) (r : List Field) → Fields l t r → first (λ f. is_record l f && is_of type f) r ≡ first (is_of type) r
-  search-same type t [] w = refl
-  search-same type t (f ∷ r) w = rw (is-record l f w.1, search-same type (suc f.tag) r w.2)
+  search_same : (type t : ℕ) (r : List Field) → Fields l t r → first (λ f. is_record l f && is_of type f) r ≡ first (is_of type) r
+  search_same type t [] w = refl
+  search_same type t (f ∷ r) w = rw (is_record_lem l f w.1, search_same type (suc f.tag) r w.2)
 
   module _ (r : List Field) (e : fields_of l ≡ some r) (w : Fields l 0 r) where
     -- the record search, and the settings, of a block with these fields
-    pub found-by-type : (type : ℕ) → record_in l type ≡ first (is_of type) r
+    pub found_by_type : (type : ℕ) → record_in l type ≡ first (is_of type) r
     unfolding record_in
-    found-by-type type = ap (record_among l type) e ∙ search-same type 0 r w
+    found_by_type type = ap (record_among l type) e ∙ search_same type 0 r w
 
-    pub settings-same : present_in (read_settings l) ≡ map (setting_at l) r
+    pub settings_same : present_in (read_settings l) ≡ map (setting_at l) r
     unfolding present_in read_settings
-    settings-same = rw (found-by-type 0, found-by-type 1, found-by-type 2, one_by_one) (read_all 3 0 r refl w)
+    settings_same = rw (found_by_type 0, found_by_type 1, found_by_type 2, one_by_one) (read_all 3 0 r refl w)
 
 -- ---- laid down again
 
 module _ (l : List ℕ) (h : are_bytes l ≡ true) where
-  numbers-length : (n k : ℕ) (f : Field) → length (numbers_from n k l f) ≡ n
-  numbers-length zero k f = refl
-  numbers-length (suc n) k f = ap suc (numbers-length n (suc k) f)
+  numbers_length : (n k : ℕ) (f : Field) → length (numbers_from n k l f) ≡ n
+  numbers_length zero k f = refl
+  numbers_length (suc n) k f = ap suc (numbers_length n (suc k) f)
 
   -- n numbers of a field from its number k on, which end at byte j
-  numbers-again : (n k j : ℕ) (f : Field) → 4 * n + (3 + 4 * k + f.start) ≡ j → j ≤ length l
+  numbers_again : (n k j : ℕ) (f : Field) → 4 * n + (3 + 4 * k + f.start) ≡ j → j ≤ length l
       → drop (3 + 4 * k + f.start) l ≡ dwords (numbers_from n k l f) ++ drop j l
-  numbers-again zero k j f e b = let p : 3 + 4 * k + f.start ≡ j = omega arith in ap (λ (x : ℕ). drop x l) p
-  numbers-again (suc n) k j f e b =
+  numbers_again zero k j f e b = let p : 3 + 4 * k + f.start ≡ j = omega arith in ap (λ (x : ℕ). drop x l) p
+  numbers_again (suc n) k j f e b =
       let p : 4 + (3 + 4 * k + f.start) ≡ 3 + 4 * suc k + f.start = omega arith in
-      dword-again l h (3 + 4 * k + f.start) (omega arith)
-      ∙ ap (λ (m : List ℕ). le32 (value l f k) ++ m) (ap (λ (x : ℕ). drop x l) p ∙ numbers-again n (suc k) j f (omega arith) b)
+      dword_again l h (3 + 4 * k + f.start) (omega arith)
+      ∙ ap (λ (m : List ℕ). le32 (value l f k) ++ m) (ap (λ (x : ℕ). drop x l) p ∙ numbers_again n (suc k) j f (omega arith) b)
 
   module _ (i : ℕ) (w : Whole l (field_at l i)) (b : 3 + (field_at l i).size + i ≤ length l) where
     abbrev f : Field
@@ -112,31 +112,31 @@ module _ (l : List ℕ) (h : are_bytes l ≡ true) where
     whole_numbers : 4 * (f.size / 4) ≡ f.size
     whole_numbers = let e : f.size ≡ record_size f.tag = w.long in omega (arith, (size_is f.tag).exact)
 
-    header-again : drop i l ≡ (f.tag ∷ le16 f.size) ++ drop (3 + i) l
-    header-again =
+    header_again : drop i l ≡ (f.tag ∷ le16 f.size) ++ drop (3 + i) l
+    header_again =
         let p : suc i ≡ 1 + i = omega arith in
         let q : 2 + (1 + i) ≡ 3 + i = omega arith in
         drop-cons l i 0 (omega arith)
-        ∙ ap (λ (m : List ℕ). f.tag ∷ m) (ap (λ (x : ℕ). drop x l) p ∙ word-again l h (1 + i) (omega arith) ∙ ap (λ (x : ℕ). le16 f.size ++ drop x l) q)
+        ∙ ap (λ (m : List ℕ). f.tag ∷ m) (ap (λ (x : ℕ). drop x l) p ∙ word_again l h (1 + i) (omega arith) ∙ ap (λ (x : ℕ). le16 f.size ++ drop x l) q)
 
-    field-again : drop i l ≡ record_bytes (setting_at l f) ++ drop (3 + f.size + i) l
-    field-again =
-        let n : f.size ≡ 4 * length (numbers_from (f.size / 4) 0 l f) = omega (arith, whole_numbers, numbers-length (f.size / 4) 0 f) in
-        header-again ∙ ap₂ (λ (x : ℕ) (m : List ℕ). (f.tag ∷ le16 x) ++ m) n (numbers-again (f.size / 4) 0 (3 + f.size + i) f (omega (arith, whole_numbers)) b)
+    field_again : drop i l ≡ record_bytes (setting_at l f) ++ drop (3 + f.size + i) l
+    field_again =
+        let n : f.size ≡ 4 * length (numbers_from (f.size / 4) 0 l f) = omega (arith, whole_numbers, numbers_length (f.size / 4) 0 f) in
+        header_again ∙ ap₂ (λ (x : ℕ) (m : List ℕ). (f.tag ∷ le16 x) ++ m) n (numbers_again (f.size / 4) 0 (3 + f.size + i) f (omega (arith, whole_numbers)) b)
 
   -- at the end nothing is left
-  at-end : (i : ℕ) (r : List Field) → eqb i (length l) ≡ true → r ≡ [] → drop i l ≡ laid_down (map (setting_at l) r)
-  at-end i r e z = rw (z, eqb-true i (length l) e) (drop-length l)
+  at_end : (i : ℕ) (r : List Field) → eqb i (length l) ≡ true → r ≡ [] → drop i l ≡ laid_down (map (setting_at l) r)
+  at_end i r e z = rw (z, eqb-true i (length l) e) (drop-length l)
 
   -- all fields from byte i on
-  fields-again : (n t i : ℕ) (r : List Field) → fields_from n l i ≡ some r → Fields l t r → drop i l ≡ laid_down (map (setting_at l) r)
-  fields-again zero t i r e w = go (eqb i (length l)) refl e
+  fields_again : (n t i : ℕ) (r : List Field) → fields_from n l i ≡ some r → Fields l t r → drop i l ≡ laid_down (map (setting_at l) r)
+  fields_again zero t i r e w = go (eqb i (length l)) refl e
     where
       go : (q : Bool) → eqb i (length l) ≡ q → cond q (some []) none ≡ some r → drop i l ≡ laid_down (map (setting_at l) r)
-      go true x z = at-end i r x cc
+      go true x z = at_end i r x cc
       go false x z = absurd (none-ne-some r z)
-  fields-again (suc n) t i r e w =
-      go (λ m z k. fields-again n (suc (field_at l i).tag) next m z k) (eqb i (length l)) refl (leb next (length l)) refl (fields_from n l next) refl e
+  fields_again (suc n) t i r e w =
+      go (λ m z k. fields_again n (suc (field_at l i).tag) next m z k) (eqb i (length l)) refl (leb next (length l)) refl (fields_from n l next) refl e
     where
       next : ℕ
       next = 3 + (field_at l i).size + i
@@ -144,17 +144,17 @@ module _ (l : List ℕ) (h : are_bytes l ≡ true) where
       go : ((m : List Field) → fields_from n l next ≡ some m → Fields l (suc (field_at l i).tag) m → drop next l ≡ laid_down (map (setting_at l) m))
           → (p : Bool) → eqb i (length l) ≡ p → (q : Bool) → leb next (length l) ≡ q → (o : Option (List Field)) → fields_from n l next ≡ o
           → cond p (some []) (cond q (prepend (field_at l i) o) none) ≡ some r → drop i l ≡ laid_down (map (setting_at l) r)
-      go ih true x q y o v z = at-end i r x cc
+      go ih true x q y o v z = at_end i r x cc
       go ih false x false y o v z = absurd (none-ne-some r z)
       go ih false x true y none v z = absurd (none-ne-some r z)
       go ih false x true y (some m) v z =
           let s : r ≡ field_at l i ∷ m = cc in
           let k : Fields l t (field_at l i ∷ m) = subst (Fields l t) s w in
-          field-again i k.1 (leb-true next (length l) y)
+          field_again i k.1 (leb-true next (length l) y)
           ∙ ap (λ (d : List ℕ). record_bytes (setting_at l (field_at l i)) ++ d) (ih m v k.2)
           ∙ ap (λ (g : List Field). laid_down (map (setting_at l) g)) (sym s)
 
   -- all fields of the block
-  pub block-again : (r : List Field) → fields_of l ≡ some r → Fields l 0 r → l ≡ laid_down (map (setting_at l) r)
+  pub block_again : (r : List Field) → fields_of l ≡ some r → Fields l 0 r → l ≡ laid_down (map (setting_at l) r)
   unfolding fields_of
-  block-again r e w = fields-again (length l) 0 0 r e w
+  block_again r e w = fields_again (length l) 0 0 r e w

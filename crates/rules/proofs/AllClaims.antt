@@ -12,8 +12,8 @@ use Rattle.rules.proofs.Rom.{image_part_lem, sound_chain}
 use Rattle.rules.proofs.Pairs.{three_cases, sound_pairs}
 use Rattle.rules.proofs.Writing.{written_sound, written_read_back, read_written_again}
 
-pub all-claims : AllClaims
-all-claims = record {
+pub all_claims : AllClaims
+all_claims = record {
   every_and_pair = every_and_pair;
   granted_largest = granted_largest;
   old_rows = old_rows;

@@ -29,8 +29,8 @@ four_bytes x h =
     omega arith
 
 module _ (a b : ℕ) (ha : a < 256) (hb : b < 256) where
-  le16-of : le16 (a + b * 2 ^ 8) ≡ a ∷ b ∷ []
-  le16-of = ap₂ (λ (x y : ℕ). x ∷ y ∷ []) low high
+  le16_of : le16 (a + b * 2 ^ 8) ≡ a ∷ b ∷ []
+  le16_of = ap₂ (λ (x y : ℕ). x ∷ y ∷ []) low high
     where
       low : (a + b * 2 ^ 8) % 256 ≡ a
       low = omega arith
@@ -42,35 +42,35 @@ module _ (a b : ℕ) (ha : a < 256) (hb : b < 256) where
     abbrev four : ℕ
     four = a + b * 2 ^ 8 + (c + d * 2 ^ 8) * 2 ^ 16
 
-    byte-0 : four % 256 ≡ a
-    byte-0 = omega arith
+    byte_0 : four % 256 ≡ a
+    byte_0 = omega arith
 
-    byte-1 : four / 2 ^ 8 % 256 ≡ b
-    byte-1 = omega arith
+    byte_1 : four / 2 ^ 8 % 256 ≡ b
+    byte_1 = omega arith
 
-    byte-2 : four / 2 ^ 16 % 256 ≡ c
-    byte-2 = omega arith
+    byte_2 : four / 2 ^ 16 % 256 ≡ c
+    byte_2 = omega arith
 
-    byte-3 : four / 2 ^ 24 % 256 ≡ d
-    byte-3 = omega arith
+    byte_3 : four / 2 ^ 24 % 256 ≡ d
+    byte_3 = omega arith
 
-    le32-of : le32 four ≡ a ∷ b ∷ c ∷ d ∷ []
-    le32-of = rw (byte-0, byte-1, byte-2, byte-3)
+    le32_of : le32 four ≡ a ∷ b ∷ c ∷ d ∷ []
+    le32_of = rw (byte_0, byte_1, byte_2, byte_3)
 
 -- ---- the bytes from byte i on, read at k in m and at k + i in l
 
 module _ (l m : List ℕ) (i : ℕ) (e : drop i l ≡ m) where
-  pub drop-in : (j k : ℕ) → j ≡ k + i → drop j l ≡ drop k m
-  drop-in j k h = ap (λ (x : ℕ). drop x l) (h ∙ add_comm k i) ∙ sym (drop-drop k i l) ∙ ap (drop k) e
+  pub drop_in : (j k : ℕ) → j ≡ k + i → drop j l ≡ drop k m
+  drop_in j k h = ap (λ (x : ℕ). drop x l) (h ∙ add_comm k i) ∙ sym (drop-drop k i l) ∙ ap (drop k) e
 
-  pub byte-in : (j k : ℕ) → j ≡ k + i → byte l j ≡ byte m k
-  byte-in j k h = ap (byte l) (h ∙ add_comm k i) ∙ sym (get_or-drop i l k 0) ∙ ap (λ (x : List ℕ). byte x k) e
+  pub byte_in : (j k : ℕ) → j ≡ k + i → byte l j ≡ byte m k
+  byte_in j k h = ap (byte l) (h ∙ add_comm k i) ∙ sym (get_or-drop i l k 0) ∙ ap (λ (x : List ℕ). byte x k) e
 
   pub word_in : (j k : ℕ) → j ≡ k + i → word l j ≡ word m k
-  word_in j k h = ap₂ (λ (x y : ℕ). x + y * 2 ^ 8) (byte-in j k h) (byte-in (1 + j) (1 + k) (omega arith))
+  word_in j k h = ap₂ (λ (x y : ℕ). x + y * 2 ^ 8) (byte_in j k h) (byte_in (1 + j) (1 + k) (omega arith))
 
-  pub dword-in : (j k : ℕ) → j ≡ k + i → dword l j ≡ dword m k
-  dword-in j k h = ap₂ (λ (x y : ℕ). x + y * 2 ^ 16) (word_in j k h) (word_in (2 + j) (2 + k) (omega arith))
+  pub dword_in : (j k : ℕ) → j ≡ k + i → dword l j ≡ dword m k
+  dword_in j k h = ap₂ (λ (x y : ℕ). x + y * 2 ^ 16) (word_in j k h) (word_in (2 + j) (2 + k) (omega arith))
 
 -- ---- bytes read and written again
 
@@ -87,14 +87,14 @@ two_at l i k =
     drop-cons l i 0 (omega arith) ∙ ap (λ (m : List ℕ). byte l i ∷ m) (drop-cons l (suc i) 0 (omega arith)) ∙ rw (a, b)
 
 module _ (l : List ℕ) (h : are_bytes l ≡ true) where
-  pub word-again : (i : ℕ) → 2 + i ≤ length l → drop i l ≡ le16 (word l i) ++ drop (2 + i) l
-  word-again i k = two_at l i k ∙ ap (λ (m : List ℕ). m ++ drop (2 + i) l) (sym (le16-of (byte l i) (byte l (1 + i)) (byte_fits l h i) (byte_fits l h (1 + i))))
+  pub word_again : (i : ℕ) → 2 + i ≤ length l → drop i l ≡ le16 (word l i) ++ drop (2 + i) l
+  word_again i k = two_at l i k ∙ ap (λ (m : List ℕ). m ++ drop (2 + i) l) (sym (le16_of (byte l i) (byte l (1 + i)) (byte_fits l h i) (byte_fits l h (1 + i))))
 
-  pub dword-again : (i : ℕ) → 4 + i ≤ length l → drop i l ≡ le32 (dword l i) ++ drop (4 + i) l
-  dword-again i k =
+  pub dword_again : (i : ℕ) → 4 + i ≤ length l → drop i l ≡ le32 (dword l i) ++ drop (4 + i) l
+  dword_again i k =
       let a : 2 + (2 + i) ≡ 4 + i = omega arith in
       two_at l i (omega arith) ∙ ap (λ (m : List ℕ). byte l i ∷ byte l (1 + i) ∷ m) (two_at l (2 + i) (omega arith)) ∙ ap (λ (n : ℕ). four ++ drop n l) a
-      ∙ ap (λ (m : List ℕ). m ++ drop (4 + i) l) (sym (le32-of (byte l i) (byte l (1 + i)) (byte_fits l h i) (byte_fits l h (1 + i))
+      ∙ ap (λ (m : List ℕ). m ++ drop (4 + i) l) (sym (le32_of (byte l i) (byte l (1 + i)) (byte_fits l h i) (byte_fits l h (1 + i))
       (byte l (2 + i)) (byte l (1 + (2 + i))) (byte_fits l h (2 + i)) (byte_fits l h (1 + (2 + i)))))
     where
       four : List ℕ

@@ -16,42 +16,42 @@ use Rattle.rules.specs.Claims.{EveryAndPair}
 use Rattle.rules.proofs.Tests.{and-true, and_is}
 
 module _ {A : Type 0} (d : A) where
-  pub every-at : (p : A → Bool) (l : List A) → every p l ≡ true → (i : ℕ) → i < length l → p (get_or l i d) ≡ true
-  every-at p [] e i h = absurd (not-suc-le-zero h)
-  every-at p (x ∷ l) e zero h = (and-true (p x) (every p l) e).0
-  every-at p (x ∷ l) e (suc i) h = every-at p l (and-true (p x) (every p l) e).1 i (le_of_suc-le-suc h)
+  pub every_at : (p : A → Bool) (l : List A) → every p l ≡ true → (i : ℕ) → i < length l → p (get_or l i d) ≡ true
+  every_at p [] e i h = absurd (not-suc-le-zero h)
+  every_at p (x ∷ l) e zero h = (and-true (p x) (every p l) e).0
+  every_at p (x ∷ l) e (suc i) h = every_at p l (and-true (p x) (every p l) e).1 i (le_of_suc-le-suc h)
 
   at_every : (p : A → Bool) (l : List A) → ((i : ℕ) → i < length l → p (get_or l i d) ≡ true) → every p l ≡ true
   at_every p [] f = refl
   at_every p (x ∷ l) f = and_is (f 0 (omega arith)) (at_every p l (λ i h. f (suc i) (omega arith)))
 
-  pub pairwise-at : (p : A → A → Bool) (l : List A) → pairwise p l ≡ true → (i j : ℕ) → i < j → j < length l → p (get_or l i d) (get_or l j d) ≡ true
-  pairwise-at p [] e i j h k = absurd (not-suc-le-zero k)
-  pairwise-at p (x ∷ l) e i zero h k = absurd (not-suc-le-zero h)
-  pairwise-at p (x ∷ l) e zero (suc j) h k = every-at (p x) l (and-true (every (p x) l) (pairwise p l) e).0 j (le_of_suc-le-suc k)
-  pairwise-at p (x ∷ l) e (suc i) (suc j) h k =
-      pairwise-at p l (and-true (every (p x) l) (pairwise p l) e).1 i j (le_of_suc-le-suc h) (le_of_suc-le-suc k)
+  pub pairwise_at : (p : A → A → Bool) (l : List A) → pairwise p l ≡ true → (i j : ℕ) → i < j → j < length l → p (get_or l i d) (get_or l j d) ≡ true
+  pairwise_at p [] e i j h k = absurd (not-suc-le-zero k)
+  pairwise_at p (x ∷ l) e i zero h k = absurd (not-suc-le-zero h)
+  pairwise_at p (x ∷ l) e zero (suc j) h k = every_at (p x) l (and-true (every (p x) l) (pairwise p l) e).0 j (le_of_suc-le-suc k)
+  pairwise_at p (x ∷ l) e (suc i) (suc j) h k =
+      pairwise_at p l (and-true (every (p x) l) (pairwise p l) e).1 i j (le_of_suc-le-suc h) (le_of_suc-le-suc k)
 
-  at-pairwise : (p : A → A → Bool) (l : List A) → ((i j : ℕ) → i < j → j < length l → p (get_or l i d) (get_or l j d) ≡ true) → pairwise p l ≡ true
-  at-pairwise p [] f = refl
-  at-pairwise p (x ∷ l) f = and_is
+  at_pairwise : (p : A → A → Bool) (l : List A) → ((i j : ℕ) → i < j → j < length l → p (get_or l i d) (get_or l j d) ≡ true) → pairwise p l ≡ true
+  at_pairwise p [] f = refl
+  at_pairwise p (x ∷ l) f = and_is
       (at_every (p x) l (λ j h. f 0 (suc j) (omega arith) (omega arith)))
-      (at-pairwise p l (λ i j h k. f (suc i) (suc j) (omega arith) (omega arith)))
+      (at_pairwise p l (λ i j h k. f (suc i) (suc j) (omega arith) (omega arith)))
 
-  pub padded-length : (n : ℕ) (l : List A) → length (padded d n l) ≡ n
-  padded-length zero l = refl
-  padded-length (suc n) [] = ap suc (padded-length n [])
-  padded-length (suc n) (x ∷ l) = ap suc (padded-length n l)
+  pub padded_length : (n : ℕ) (l : List A) → length (padded d n l) ≡ n
+  padded_length zero l = refl
+  padded_length (suc n) [] = ap suc (padded_length n [])
+  padded_length (suc n) (x ∷ l) = ap suc (padded_length n l)
 
   -- the list stands first, whatever fills it up
-  pub padded-in : (z : A) (n : ℕ) (l : List A) (i : ℕ) → i < length l → i < n → get_or (padded d n l) i z ≡ get_or l i z
-  padded-in z zero l i k h = absurd (not-suc-le-zero h)
-  padded-in z (suc n) [] i k h = absurd (not-suc-le-zero k)
-  padded-in z (suc n) (x ∷ l) zero k h = refl
-  padded-in z (suc n) (x ∷ l) (suc i) k h = padded-in z n l i (le_of_suc-le-suc k) (le_of_suc-le-suc h)
+  pub padded_in : (z : A) (n : ℕ) (l : List A) (i : ℕ) → i < length l → i < n → get_or (padded d n l) i z ≡ get_or l i z
+  padded_in z zero l i k h = absurd (not-suc-le-zero h)
+  padded_in z (suc n) [] i k h = absurd (not-suc-le-zero k)
+  padded_in z (suc n) (x ∷ l) zero k h = refl
+  padded_in z (suc n) (x ∷ l) (suc i) k h = padded_in z n l i (le_of_suc-le-suc k) (le_of_suc-le-suc h)
 
 pub every_and_pair : EveryAndPair
-every_and_pair A d l = (λ p. (every-at d p l, at_every d p l), λ p. (pairwise-at d p l, at-pairwise d p l))
+every_and_pair A d l = (λ p. (every_at d p l, at_every d p l), λ p. (pairwise_at d p l, at_pairwise d p l))
 
 pub map_at : {A B : Type 0} (f : A → B) (l : List A) (i : ℕ) (d : A) (z : B) → i < length l → get_or (map f l) i z ≡ f (get_or l i d)
 map_at f [] i d z h = absurd (not-suc-le-zero h)
@@ -77,11 +77,11 @@ module _ {A : Type 0} (d : A) (p : A → Bool) where
           record { at = suc f.at; in_list = omega (arith, f.in_list); is = rw h f.is; passes = f.passes }
 
 -- strings that are the same are equal
-pub same-eq : (a b : List ℕ) → same_bytes a b ≡ true → a ≡ b
-same-eq [] [] e = refl
-same-eq [] (y ∷ b) e = cc
-same-eq (x ∷ a) [] e = cc
-same-eq (x ∷ a) (y ∷ b) e = both (eqb x y) refl (same-eq a b) e
+pub same_eq : (a b : List ℕ) → same_bytes a b ≡ true → a ≡ b
+same_eq [] [] e = refl
+same_eq [] (y ∷ b) e = cc
+same_eq (x ∷ a) [] e = cc
+same_eq (x ∷ a) (y ∷ b) e = both (eqb x y) refl (same_eq a b) e
   where
     both : (t : Bool) → eqb x y ≡ t → (same_bytes a b ≡ true → a ≡ b) → t && same_bytes a b ≡ true → x ∷ a ≡ y ∷ b
     both true p f q = cc (eqb-true x y p, f q)

@@ -21,66 +21,66 @@ use Rattle.rules.specs.declared.Bridge.{Bridge}
 use Rattle.rules.specs.declared.BridgeNumber.{BridgeNumber}
 use Rattle.rules.specs.declared.SessionNumber.{SessionNumber}
 use Rattle.rules.specs.declared.Table.{Table}
-use Rattle.rules.proofs.Tests.{and-off}
+use Rattle.rules.proofs.Tests.{and_off}
 use Rattle.rules.proofs.Bytes.{four_bytes}
-use Rattle.rules.proofs.Granting.{granted-lt, granted-support, granted-again}
-use Rattle.rules.proofs.Local.{fixed-after, same-bridges}
+use Rattle.rules.proofs.Granting.{granted_lt, granted_support, granted_again}
+use Rattle.rules.proofs.Local.{fixed_after, same_bridges}
 use Rattle.rules.proofs.Soundness.{same_length}
-use Rattle.rules.proofs.History.{history-from, history-next, in_array, undisturbed}
+use Rattle.rules.proofs.History.{history_from_lem, history_next, in_array, undisturbed}
 use Rattle.rules.specs.declared.Holding.{Holding}
 
 -- a DWORD read where it was written
-read-status : (x y z : ℕ) → x < 2 ^ 32 → status (le32 x ++ le32 y ++ le32 z) ≡ x
-read-status x y z h = four_bytes x h
+read_status : (x y z : ℕ) → x < 2 ^ 32 → status (le32 x ++ le32 y ++ le32 z) ≡ x
+read_status x y z h = four_bytes x h
 
-read-control : (x y z : ℕ) → z < 2 ^ 32 → control (le32 x ++ le32 y ++ le32 z) ≡ z
-read-control x y z h = four_bytes z h
+read_control : (x y z : ℕ) → z < 2 ^ 32 → control (le32 x ++ le32 y ++ le32 z) ≡ z
+read_control x y z h = four_bytes z h
 
 -- ---- a right call to a bridge of the session
 
 module _ (t : Table) (s : SessionNumber) (n : BridgeNumber) (h : n.0 < t.count) (o : owns s (bridge_at t n.0) ≡ true) (c : Buffers) where
-  is-recognised : recognised 1 3 uuid_bytes ≡ true
+  is_recognised : recognised 1 3 uuid_bytes ≡ true
   unfolding recognised
-  is-recognised = refl
+  is_recognised = refl
 
   is_framed : framing_bad 3 uuid_bytes c.caps c.answer ≡ false
   unfolding framing_bad
   is_framed = rw (c.caps_length, c.answer_length)
 
-  is-done : number_at t.count s n (bridge_at t n.0) (osc 1 3 uuid_bytes c.caps c.answer) ≡ 0
-  is-done = rw (lt-leb t.count n.0 h, o, is_framed)
+  is_done : number_at t.count s n (bridge_at t n.0) (osc 1 3 uuid_bytes c.caps c.answer) ≡ 0
+  is_done = rw (lt-leb t.count n.0 h, o, is_framed)
 
   abbrev g : ℕ
   g = granted (bridge_at t n.0) (support c.caps) (control c.caps)
 
-  call-number : (step t (right_call s n c)).outcome.number ≡ 0
+  call_number : (step t (right_call s n c)).outcome.number ≡ 0
   unfolding step
-  call-number = rw is-done
+  call_number = rw is_done
 
-  call-answer : answer_of (step t (right_call s n c)).outcome ≡ le32 (grant_status (control c.caps) g) ++ le32 (support c.caps) ++ le32 g
+  call_answer : answer_of (step t (right_call s n c)).outcome ≡ le32 (grant_status (control c.caps) g) ++ le32 (support c.caps) ++ le32 g
   unfolding step osc_answer
-  call-answer = rw (is-done, is-recognised)
+  call_answer = rw (is_done, is_recognised)
 
-  call-control : control (answer_of (step t (right_call s n c)).outcome) ≡ g
-  call-control = ap control call-answer
-      ∙ read-control (grant_status (control c.caps) g) (support c.caps) g (granted-lt (bridge_at t n.0) (support c.caps) (control c.caps))
+  call_control : control (answer_of (step t (right_call s n c)).outcome) ≡ g
+  call_control = ap control call_answer
+      ∙ read_control (grant_status (control c.caps) g) (support c.caps) g (granted_lt (bridge_at t n.0) (support c.caps) (control c.caps))
 
   -- asked for what is granted whole, the answer is not masked
-  call-status : g ≡ control c.caps → status (answer_of (step t (right_call s n c)).outcome) ≡ 0
-  call-status e = ap status call-answer
-      ∙ rw (e, and_self (control c.caps), eq-eqb (control c.caps) (control c.caps) refl) (read-status 0 (support c.caps) (control c.caps) (omega arith))
+  call_status : g ≡ control c.caps → status (answer_of (step t (right_call s n c)).outcome) ≡ 0
+  call_status e = ap status call_answer
+      ∙ rw (e, and_self (control c.caps), eq-eqb (control c.caps) (control c.caps) refl) (read_status 0 (support c.caps) (control c.caps) (omega arith))
 
   reached : reaches t n.0 s n ≡ true
   reached = rw (eq-eqb n.0 n.0 refl, lt-leb t.count n.0 h, o)
 
-  query-undisturbed : query c.caps ≡ true → (i : ℕ) (k : Holding) → history_step t i k (right_call s n c) ≡ k
-  query-undisturbed e i k = rw (is-recognised, e, and-off (reaches t i s n && not (framing_bad 3 uuid_bytes c.caps c.answer)))
+  query_undisturbed : query c.caps ≡ true → (i : ℕ) (k : Holding) → history_step t i k (right_call s n c) ≡ k
+  query_undisturbed e i k = rw (is_recognised, e, and_off (reaches t i s n && not (framing_bad 3 uuid_bytes c.caps c.answer)))
 
-  taking-held : query c.caps ≡ false → n.0 < length t.bridges
+  taking_held : query c.caps ≡ false → n.0 < length t.bridges
       → (bridge_at (step t (right_call s n c)).table n.0).held ≡ bit_or (bridge_at t n.0).held g
-  taking-held e k =
-      ap (λ (x : Holding). x.held) (history-next t n.0 (right_call s n c) k)
-      ∙ rw (reached, is_framed, is-recognised, e)
+  taking_held e k =
+      ap (λ (x : Holding). x.held) (history_next t n.0 (right_call s n c) k)
+      ∙ rw (reached, is_framed, is_recognised, e)
 
 -- ---- a call at a later table u that differs from t in nothing that bridge n has, for what a query at t granted
 
@@ -91,28 +91,28 @@ module _ (t : Table) (s : SessionNumber) (n : BridgeNumber) (h : n.0 < t.count) 
   in_count = subst (λ (x : Table). n.0 < x.count) (sym f) h
 
   owner : owns s (bridge_at u n.0) ≡ true
-  owner = ap (owns s) (same-bridges u t f n.0) ∙ o
+  owner = ap (owns s) (same_bridges u t f n.0) ∙ o
 
-  same-bridge : bridge_at u n.0 ≡ bridge_at t n.0
-  same-bridge = ap₂ {B = Holding} (λ (x : Bridge) y. with_holding x y) (same-bridges u t f n.0) k
+  same_bridge : bridge_at u n.0 ≡ bridge_at t n.0
+  same_bridge = ap₂ {B = Holding} (λ (x : Bridge) y. with_holding x y) (same_bridges u t f n.0) k
 
   -- what was granted is granted whole
   whole : granted (bridge_at u n.0) (support c.caps) (control c.caps) ≡ control c.caps
-  whole = rw (same-bridge, e) (granted-support (bridge_at t n.0) (support c.caps) w (granted (bridge_at t n.0) w r) v ∙ granted-again (bridge_at t n.0) w r)
+  whole = rw (same_bridge, e) (granted_support (bridge_at t n.0) (support c.caps) w (granted (bridge_at t n.0) w r) v ∙ granted_again (bridge_at t n.0) w r)
 
-  whole-number : (step u (right_call s n c)).outcome.number ≡ 0
-  whole-number = call-number u s n in_count owner c
+  whole_number : (step u (right_call s n c)).outcome.number ≡ 0
+  whole_number = call_number u s n in_count owner c
 
-  whole-status : status (answer_of (step u (right_call s n c)).outcome) ≡ 0
-  whole-status = call-status u s n in_count owner c whole
+  whole_status : status (answer_of (step u (right_call s n c)).outcome) ≡ 0
+  whole_status = call_status u s n in_count owner c whole
 
-  whole-control : control (answer_of (step u (right_call s n c)).outcome) ≡ control c.caps
-  whole-control = call-control u s n in_count owner c ∙ whole
+  whole_control : control (answer_of (step u (right_call s n c)).outcome) ≡ control c.caps
+  whole_control = call_control u s n in_count owner c ∙ whole
 
-  whole-held : query c.caps ≡ false → n.0 < length u.bridges
+  whole_held : query c.caps ≡ false → n.0 < length u.bridges
       → (bridge_at (step u (right_call s n c)).table n.0).held ≡ bit_or (bridge_at t n.0).held (control c.caps)
-  whole-held q i =
-      taking-held u s n in_count owner c q i ∙ ap₂ {B = ℕ} (λ (x : Holding) y. bit_or x.held y) k whole
+  whole_held q i =
+      taking_held u s n in_count owner c q i ∙ ap₂ {B = ℕ} (λ (x : Holding) y. bit_or x.held y) k whole
 
 pub negotiated : (t : Table) → Sound t → (l m : List Call) (s : SessionNumber) (n : BridgeNumber) (first second taking : Buffers)
     → n.0 < t.count → owns s (bridge_at t n.0) ≡ true
@@ -129,21 +129,21 @@ negotiated t st l m s n first second taking h o q₁ q₂ q₃ dl dm v₂ v₃ e
     let a = right_call s n first in
     let b = right_call s n second in
     let long = in_array t st i h in
-    let r = call-control t s n h o first in
+    let r = call_control t s n h o first in
     let u = table_after t (a ∷ l) in
-    let fu : fixed u ≡ fixed t = fixed-after (a ∷ l) t in
+    let fu : fixed u ≡ fixed t = fixed_after (a ∷ l) t in
     let ku : holding (bridge_at u i) ≡ holding (bridge_at t i) =
-    history-from t i (a ∷ l) t refl long ∙ undisturbed t i (holding (bridge_at t i)) (a ∷ l) (query-undisturbed t s n h o first q₁ i, dl) in
+    history_from_lem t i (a ∷ l) t refl long ∙ undisturbed t i (holding (bridge_at t i)) (a ∷ l) (query_undisturbed t s n h o first q₁ i, dl) in
     let v = table_after u (b ∷ m) in
-    let fv : fixed v ≡ fixed t = fixed-after (b ∷ m) u ∙ fu in
+    let fv : fixed v ≡ fixed t = fixed_after (b ∷ m) u ∙ fu in
     let kv : holding (bridge_at v i) ≡ holding (bridge_at t i) =
-    history-from t i (b ∷ m) u fu (rw (same_length u t fu) long) ∙ undisturbed t i (holding (bridge_at u i)) (b ∷ m) (query-undisturbed t s n h o second q₂ i, dm) ∙ ku in
+    history_from_lem t i (b ∷ m) u fu (rw (same_length u t fu) long) ∙ undisturbed t i (holding (bridge_at u i)) (b ∷ m) (query_undisturbed t s n h o second q₂ i, dm) ∙ ku in
     record {
-      second-number = whole-number t s n h o w d u fu ku second v₂ (e₂ ∙ r);
-      second-status = whole-status t s n h o w d u fu ku second v₂ (e₂ ∙ r);
-      second-control = whole-control t s n h o w d u fu ku second v₂ (e₂ ∙ r) ∙ e₂;
-      taking-number = whole-number t s n h o w d v fv kv taking v₃ (e₃ ∙ r);
-      taking-status = whole-status t s n h o w d v fv kv taking v₃ (e₃ ∙ r);
-      taking-control = whole-control t s n h o w d v fv kv taking v₃ (e₃ ∙ r) ∙ e₃;
-      held_after = whole-held t s n h o w d v fv kv taking v₃ (e₃ ∙ r) q₃ (rw (same_length v t fv) long) ∙ ap (bit_or (bridge_at t i).held) e₃;
+      second_number = whole_number t s n h o w d u fu ku second v₂ (e₂ ∙ r);
+      second_status = whole_status t s n h o w d u fu ku second v₂ (e₂ ∙ r);
+      second_control = whole_control t s n h o w d u fu ku second v₂ (e₂ ∙ r) ∙ e₂;
+      taking_number = whole_number t s n h o w d v fv kv taking v₃ (e₃ ∙ r);
+      taking_status = whole_status t s n h o w d v fv kv taking v₃ (e₃ ∙ r);
+      taking_control = whole_control t s n h o w d v fv kv taking v₃ (e₃ ∙ r) ∙ e₃;
+      held_after = whole_held t s n h o w d v fv kv taking v₃ (e₃ ∙ r) q₃ (rw (same_length v t fv) long) ∙ ap (bit_or (bridge_at t i).held) e₃;
     }

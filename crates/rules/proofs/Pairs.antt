@@ -16,42 +16,42 @@ use Rattle.rules.specs.Records.{fields_of, value, Range, pair_of, ranges, in_ran
 use Rattle.rules.specs.Claims.{acpi_bit, ThreeCases, SoundPairs}
 use Rattle.rules.specs.declared.Field.{Field}
 use Rattle.rules.proofs.Tests.{and-true}
-use Rattle.rules.proofs.Bits.{bit-and, bit-or}
-use Rattle.rules.proofs.Sets.{within-sub, sub_within}
-use Rattle.rules.proofs.Lists.{every-at}
+use Rattle.rules.proofs.Bits.{bit_and_lem, bit_or_lem}
+use Rattle.rules.proofs.Sets.{within_sub, sub_within}
+use Rattle.rules.proofs.Lists.{every_at}
 use Rattle.rules.proofs.Records.{no_field, chosen}
-use Rattle.rules.proofs.Whole.{record-keeps}
+use Rattle.rules.proofs.Whole.{record_keeps}
 
 -- ---- one bit
 
-by-case : (a o c : Bool) → (o ≡ true → a ≡ true) → acpi_bit a o c ≡ some ((c && a) || o)
-by-case true true true h = refl
-by-case true true false h = refl
-by-case true false true h = refl
-by-case true false false h = refl
-by-case false false true h = refl
-by-case false false false h = refl
-by-case false true c h = absurd (true≢false (sym (h refl)))
+by_case : (a o c : Bool) → (o ≡ true → a ≡ true) → acpi_bit a o c ≡ some ((c && a) || o)
+by_case true true true h = refl
+by_case true true false h = refl
+by_case true false true h = refl
+by_case true false false h = refl
+by_case false false true h = refl
+by_case false false false h = refl
+by_case false true c h = absurd (true≢false (sym (h refl)))
 
-has-case : (a o c x : Bool) → acpi_bit a o c ≡ some x → o ≡ true → a ≡ true
-has-case true o c x e q = refl
-has-case false true c x e q = absurd (none-ne-some x e)
-has-case false false c x e q = q
+has_case : (a o c x : Bool) → acpi_bit a o c ≡ some x → o ≡ true → a ≡ true
+has_case true o c x e q = refl
+has_case false true c x e q = absurd (none-ne-some x e)
+has_case false false c x e q = q
 
 pub three_cases : ThreeCases
 three_cases and or = (
-  λ e current i. by-case (bit and i) (bit or i) (bit current i) (within-sub or and e i) ∙ ap some (sym (formula current i)),
-  λ f. sub_within or and (λ i. has-case (bit and i) (bit or i) (bit 0 i) _ (f 0 i)),
+  λ e current i. by_case (bit and i) (bit or i) (bit current i) (within_sub or and e i) ∙ ap some (sym (formula current i)),
+  λ f. sub_within or and (λ i. has_case (bit and i) (bit or i) (bit 0 i) _ (f 0 i)),
 )
   where
     formula : (current i : ℕ) → bit (and_or current and or) i ≡ ((bit current i && bit and i) || bit or i)
-    formula current i = bit-or (bit_and current and) or i ∙ ap (λ (q : Bool). q || bit or i) (bit-and current and i)
+    formula current i = bit_or_lem (bit_and current and) or i ∙ ap (λ (q : Bool). q || bit or i) (bit_and_lem current and i)
 
 -- ---- a sound block
 
 -- the pair of register k is one of the ranges of type 2
 pair_keeps : (v : ℕ → ℕ) → in_ranges 2 v ≡ true → (k : ℕ) → k < 8 → in_range v (pair_of k) ≡ true
-pair_keeps v e k h = subst (λ (r : Range). in_range v r ≡ true) (at k h) (every-at (pair_of 0) (in_range v) (ranges 2) e (4 + k) (omega arith))
+pair_keeps v e k h = subst (λ (r : Range). in_range v r ≡ true) (at k h) (every_at (pair_of 0) (in_range v) (ranges 2) e (4 + k) (omega arith))
   where
     at : (k : ℕ) → k < 8 → get_or (ranges 2) (4 + k) (pair_of 0) ≡ pair_of k
     at zero h = refl
@@ -70,8 +70,8 @@ keeps l type f none s e = absurd (true≢false (sym s))
 keeps l type f (some r) s e =
     let c = chosen l type r f e in
     let t = and-true (every (field_sound l) r) (pairwise (not_twice l) r) s in
-    let q = subst (λ (g : Field). field_sound l g ≡ true) c.is (every-at no_field (field_sound l) r t.0 c.at c.in_list) in
-    subst (λ (n : ℕ). in_ranges n (value l f) ≡ true) c.tag_is (record-keeps l f c.is-record q).1
+    let q = subst (λ (g : Field). field_sound l g ≡ true) c.is (every_at no_field (field_sound l) r t.0 c.at c.in_list) in
+    subst (λ (n : ℕ). in_ranges n (value l f) ≡ true) c.tag_is (record_keeps l f c.is_record_lem q).1
 
 pub sound_pairs : SoundPairs
 unfolding block_sound record_in

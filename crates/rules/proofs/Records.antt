@@ -35,13 +35,13 @@ AllIn l r = (k : ℕ) → k < length r → InBlock l (get_or r k no_field)
 none_in : (l : List ℕ) (r : List Field) → r ≡ [] → AllIn l r
 none_in l r e k h = absurd (not-suc-le-zero (subst (λ (x : List Field). k < length x) e h))
 
-walk-in : (n : ℕ) (l : List ℕ) (i : ℕ) (r : List Field) → fields_from n l i ≡ some r → AllIn l r
-walk-in zero l i r e = go (eqb i (length l)) e
+walk_in : (n : ℕ) (l : List ℕ) (i : ℕ) (r : List Field) → fields_from n l i ≡ some r → AllIn l r
+walk_in zero l i r e = go (eqb i (length l)) e
   where
     go : (q : Bool) → cond q (some []) none ≡ some r → AllIn l r
     go true z = none_in l r cc
     go false z = absurd (none-ne-some r z)
-walk-in (suc n) l i r e = go (λ m c. walk-in n l (3 + (field_at l i).size + i) m c) (eqb i (length l)) (leb next (length l)) refl e
+walk_in (suc n) l i r e = go (λ m c. walk_in n l (3 + (field_at l i).size + i) m c) (eqb i (length l)) (leb next (length l)) refl e
   where
     next : ℕ
     next = 3 + (field_at l i).size + i
@@ -68,7 +68,7 @@ pub record Chosen (l : List ℕ) (type : ℕ) (r : List Field) (f : Field) : Typ
   pub at : ℕ
   pub in_list : at < length r
   pub is : get_or r at no_field ≡ f
-  pub is-record : is_record l f ≡ true
+  pub is_record_lem : is_record l f ≡ true
   pub tag_is : f.tag ≡ type
 
 pub chosen : (l : List ℕ) (type : ℕ) (r : List Field) (f : Field) → record_among l type (some r) ≡ some f → Chosen l type r f
@@ -76,7 +76,7 @@ chosen l type r f e =
     let s = stands no_field test r (ap is_none e) in
     let same : get_or r s.at no_field ≡ f = some_is (sym s.is ∙ e) in
     let p = and-true (is_record l f) (eqb f.tag type) (ap test (sym same) ∙ s.passes) in
-    record { at = s.at; in_list = s.in_list; is = same; is-record = p.0; tag_is = eqb-true f.tag type p.1 }
+    record { at = s.at; in_list = s.in_list; is = same; is_record_lem = p.0; tag_is = eqb-true f.tag type p.1 }
   where
     test : Field → Bool
     test h = is_record l h && eqb h.tag type
@@ -88,19 +88,19 @@ chosen l type r f e =
 record Matches (l : List ℕ) (type : ℕ) (f : Field) : Type 0 where
   in_block : InBlock l f
   tag_is : f.tag ≡ type
-  revision-is : value l f 0 ≡ 1
+  revision_is : value l f 0 ≡ 1
 
 among : (l : List ℕ) (type : ℕ) (o : Option (List Field)) → ((r : List Field) → o ≡ some r → AllIn l r)
     → (f : Field) → record_among l type o ≡ some f → Matches l type f
 among l type none a f e = absurd (none-ne-some f e)
 among l type (some r) a f e =
     let s = chosen l type r f e in
-    let q = and-true (leb f.tag 2) (eqb (value l f 0) 1) s.is-record in
-    record { in_block = subst (InBlock l) s.is (a r refl s.at s.in_list); tag_is = s.tag_is; revision-is = eqb-true (value l f 0) 1 q.1 }
+    let q = and-true (leb f.tag 2) (eqb (value l f 0) 1) s.is_record_lem in
+    record { in_block = subst (InBlock l) s.is (a r refl s.at s.in_list); tag_is = s.tag_is; revision_is = eqb-true (value l f 0) 1 q.1 }
 
-record-matches : (l : List ℕ) (type : ℕ) (f : Field) → record_in l type ≡ some f → Matches l type f
+record_matches : (l : List ℕ) (type : ℕ) (f : Field) → record_in l type ≡ some f → Matches l type f
 unfolding record_in fields_of
-record-matches l type f e = among l type (fields_of l) (λ r c. walk-in (length l) l 0 r c) f e
+record_matches l type f e = among l type (fields_of l) (λ r c. walk_in (length l) l 0 r c) f e
 
 pub record_part_lem : RecordPart
 record_part_lem slot block type = go (first_of (record_refusals slot block type)) (record_in l type) refl refl
@@ -115,7 +115,7 @@ record_part_lem slot block type = go (first_of (record_refusals slot block type)
         let c = clear ((8 if not (block_sound l)) ∷ (9 if is_none (record_in l type)) ∷ []) (omega arith) e in
         absurd (true≢false (ap is_none (sym h) ∙ c.1.0))
     go zero (some f) e h z =
-        let m = record-matches l type f h in
+        let m = record_matches l type f h in
         let i = m.in_block.is_field in
-        (omega (arith, m.in_block.ends), ap (λ (x : Field). x.tag) (sym i) ∙ m.tag_is, ap (λ (x : Field). 3 + x.size) i, m.revision-is)
+        (omega (arith, m.in_block.ends), ap (λ (x : Field). x.tag) (sym i) ∙ m.tag_is, ap (λ (x : Field). 3 + x.size) i, m.revision_is)
     go (suc k) o e h z = absurd (omega (arith, z))

@@ -7,18 +7,18 @@ use mathlib.Core.List.{List, [], ◌∷◌}
 use Prim.Native.Nat.{ℕ}
 use Rattle.rules.specs.Refusals.{Refusal, ◌if◌, first_of, GivenBy, done, here, later}
 
-first-given : (l : List Refusal) → GivenBy (first_of l) l
-first-given [] = done
-first-given ((n if true) ∷ l) = here
-first-given ((n if false) ∷ l) = later (first-given l)
+first_given : (l : List Refusal) → GivenBy (first_of l) l
+first_given [] = done
+first_given ((n if true) ∷ l) = here
+first_given ((n if false) ∷ l) = later (first_given l)
 
-given-first : {n : ℕ} {l : List Refusal} → GivenBy n l → first_of l ≡ n
-given-first done = refl
-given-first here = refl
-given-first (later f) = given-first f
+given_first : {n : ℕ} {l : List Refusal} → GivenBy n l → first_of l ≡ n
+given_first done = refl
+given_first here = refl
+given_first (later f) = given_first f
 
 pub exactly : (n : ℕ) (l : List Refusal) → first_of l ≡ n ↔ GivenBy n l
-exactly n l = (λ e. subst (λ (k : ℕ). GivenBy k l) e (first-given l), given-first)
+exactly n l = (λ e. subst (λ (k : ℕ). GivenBy k l) e (first_given l), given_first)
 
 -- no condition holds
 abbrev pub Clear : List Refusal → Type 0

@@ -28,10 +28,10 @@ module _ {A : Type 0} (key : A → ℕ) (P : A → Type 0) where
   every_of p t g (x ∷ l) r = and_is (g x r.0 r.1) (every_of p t g l (lower t (suc (key x)) (omega arith) l r.2))
 
   -- one that passes where the key rises passes for every pair
-  pub pairwise-of : (q : A → A → Bool) → ((x y : A) → key x < key y → q x y ≡ true) → (t : ℕ) (l : List A) → Rising t l → pairwise q l ≡ true
-  pairwise-of q g t [] r = refl
-  pairwise-of q g t (x ∷ l) r =
-      and_is (every_of (q x) (suc (key x)) (λ y h p. g x y h) l r.2) (pairwise-of q g (suc (key x)) l r.2)
+  pub pairwise_of : (q : A → A → Bool) → ((x y : A) → key x < key y → q x y ≡ true) → (t : ℕ) (l : List A) → Rising t l → pairwise q l ≡ true
+  pairwise_of q g t [] r = refl
+  pairwise_of q g t (x ∷ l) r =
+      and_is (every_of (q x) (suc (key x)) (λ y h p. g x y h) l r.2) (pairwise_of q g (suc (key x)) l r.2)
 
   -- no element has a key below the first
   pub none_below : (t u : ℕ) → t < u → (l : List A) → Rising u l → first (λ x. eqb (key x) t) l ≡ none

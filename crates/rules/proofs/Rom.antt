@@ -18,7 +18,7 @@ use Rattle.rules.specs.Rom.{image_signature, structure_signature, structure_at, 
 use Rattle.rules.specs.Claims.{ImagePart, SoundChain}
 use Rattle.rules.proofs.Tests.{and-true, and_is, same_test}
 use Rattle.rules.proofs.Refusals.{clear}
-use Rattle.rules.proofs.Lists.{same-eq}
+use Rattle.rules.proofs.Lists.{same_eq}
 use Rattle.rules.specs.declared.Image.{Image}
 
 -- ---- what is sound of an image
@@ -27,11 +27,11 @@ pub record SoundImage (l : List ℕ) (m : Image) : Type 0 where
   pub signature : same_bytes (take 2 (drop m.start l)) image_signature ≡ true
   pub letters : same_bytes (take 4 (drop m.structure l)) structure_signature ≡ true
   pub ends : m.size + m.start ≤ length l
-  pub structure-ends : 24 + m.structure ≤ length l
-  pub not-empty : m.size ≡ 0 → ⊥
+  pub structure_ends : 24 + m.structure ≤ length l
+  pub not_empty : m.size ≡ 0 → ⊥
 
-pub sound-image : (l : List ℕ) (m : Image) → image_sound l m ≡ true → SoundImage l m
-sound-image l m e =
+pub sound_image : (l : List ℕ) (m : Image) → image_sound l m ≡ true → SoundImage l m
+sound_image l m e =
     let a = and-true _ (not (eqb m.size 0)) e in
     let b = and-true _ (leb (24 + m.structure) (length l)) a.0 in
     let c = and-true _ (leb (m.size + m.start) (length l)) b.0 in
@@ -40,13 +40,13 @@ sound-image l m e =
       signature = d.0;
       letters = d.1;
       ends = leb-true (m.size + m.start) (length l) c.1;
-      structure-ends = leb-true (24 + m.structure) (length l) b.1;
-      not-empty = λ z. true≢false (sym a.1 ∙ ap not (eq-eqb m.size 0 z));
+      structure_ends = leb-true (24 + m.structure) (length l) b.1;
+      not_empty = λ z. true≢false (sym a.1 ∙ ap not (eq-eqb m.size 0 z));
     }
 
 -- it has 512 bytes
 pub unit : (l : List ℕ) (i : ℕ) → SoundImage l (image_at l i) → 512 ≤ (image_at l i).size
-unit l i s = whole (word l (0x10 + structure_at l i)) s.not-empty
+unit l i s = whole (word l (0x10 + structure_at l i)) s.not_empty
   where
     whole : (n : ℕ) → (512 * n ≡ 0 → ⊥) → 512 ≤ 512 * n
     whole zero z = absurd (z refl)
@@ -54,9 +54,9 @@ unit l i s = whole (word l (0x10 + structure_at l i)) s.not-empty
 
 -- ---- the images to the last, and chains
 
-to-chain : (n : ℕ) (l : List ℕ) (i : ℕ) (r : List Image) → images_from n l i ≡ some r → every (image_sound l) r ≡ true → Chain l i r
-to-chain zero l i r e a = absurd (none-ne-some r e)
-to-chain (suc n) l i r e a = go (λ k f s. to-chain n l (m.size + i) k f s) (is_last l m) refl (images_from n l (m.size + i)) refl e
+to_chain : (n : ℕ) (l : List ℕ) (i : ℕ) (r : List Image) → images_from n l i ≡ some r → every (image_sound l) r ≡ true → Chain l i r
+to_chain zero l i r e a = absurd (none-ne-some r e)
+to_chain (suc n) l i r e a = go (λ k f s. to_chain n l (m.size + i) k f s) (is_last l m) refl (images_from n l (m.size + i)) refl e
   where
     m : Image
     m = image_at l i
@@ -74,32 +74,32 @@ to-chain (suc n) l i r e a = go (λ k f s. to-chain n l (m.size + i) k f s) (is_
         subst (Chain l i) (sym y) (next s.0 h (ih k f s.1))
 
 -- so many images are enough, since each has 512 bytes
-from-chain : (n : ℕ) (l : List ℕ) (i : ℕ) (r : List Image) → Chain l i r → length l < 512 + (512 * n + i)
+from_chain : (n : ℕ) (l : List ℕ) (i : ℕ) (r : List Image) → Chain l i r → length l < 512 + (512 * n + i)
     → (images_from n l i ≡ some r) × (every (image_sound l) r ≡ true)
-from-chain zero l i r (last s e) h =
-    let g = sound-image l (image_at l i) s in
+from_chain zero l i r (last s e) h =
+    let g = sound_image l (image_at l i) s in
     absurd (omega (arith, g.ends, unit l i g))
-from-chain zero l i r (next s e c) h =
-    let g = sound-image l (image_at l i) s in
+from_chain zero l i r (next s e c) h =
+    let g = sound_image l (image_at l i) s in
     absurd (omega (arith, g.ends, unit l i g))
-from-chain (suc n) l i r (last s e) h = (rw e, rw s)
-from-chain (suc n) l i r (next {r = k} s e c) h =
-    let g = sound-image l (image_at l i) s in
-    let t = from-chain n l ((image_at l i).size + i) k c (omega (arith, unit l i g)) in
+from_chain (suc n) l i r (last s e) h = (rw e, rw s)
+from_chain (suc n) l i r (next {r = k} s e c) h =
+    let g = sound_image l (image_at l i) s in
+    let t = from_chain n l ((image_at l i).size + i) k c (omega (arith, unit l i g)) in
     (rw (e, t.0), rw (s, t.1))
 
 pub enough : (n : ℕ) → n < 512 + (512 * (n / 512) + 0)
 enough n = omega arith
 
 -- whether there is a chain does not depend on the bound
-pub any-bound : (l : List ℕ) (i n k : ℕ) → length l < 512 + (512 * n + i) → length l < 512 + (512 * k + i)
+pub any_bound : (l : List ℕ) (i n k : ℕ) → length l < 512 + (512 * n + i) → length l < 512 + (512 * k + i)
     → sound_images l (images_from n l i) ≡ sound_images l (images_from k l i)
-any-bound l i n k h j = same_test (sound_images l (images_from n l i)) (sound_images l (images_from k l i)) (over n k j (images_from n l i) refl) (over k n h (images_from k l i) refl)
+any_bound l i n k h j = same_test (sound_images l (images_from n l i)) (sound_images l (images_from k l i)) (over n k j (images_from n l i) refl) (over k n h (images_from k l i) refl)
   where
     over : (n k : ℕ) → length l < 512 + (512 * k + i) → (o : Option (List Image)) → images_from n l i ≡ o → sound_images l o ≡ true → sound_images l (images_from k l i) ≡ true
     over n k j none e s = absurd (true≢false (sym s))
     over n k j (some r) e s =
-        let t = from-chain k l i r (to-chain n l i r e s) j in
+        let t = from_chain k l i r (to_chain n l i r e s) j in
         ap (sound_images l) t.0 ∙ t.1
 
 pub sound_chain : SoundChain
@@ -107,9 +107,9 @@ unfolding rom_sound images_of
 sound_chain rom r = (
   λ (s, e).
       let h = and-true (leb (length rom) max_rom) (sound_images rom (images_of rom)) s in
-      (leb-true (length rom) max_rom h.0, to-chain (length rom / 512) rom 0 r e (ap (sound_images rom) (sym e) ∙ h.1)),
+      (leb-true (length rom) max_rom h.0, to_chain (length rom / 512) rom 0 r e (ap (sound_images rom) (sym e) ∙ h.1)),
   λ (h, c).
-      let t = from-chain (length rom / 512) rom 0 r c (enough (length rom)) in
+      let t = from_chain (length rom / 512) rom 0 r c (enough (length rom)) in
       (and_is (le-leb (length rom) max_rom h) (ap (sound_images rom) t.0 ∙ t.1), t.0),
 )
 
@@ -117,24 +117,24 @@ sound_chain rom r = (
 
 -- an image of the ROM, sound and as asked for
 pub record Chosen (l : List ℕ) (vendor device code_type : ℕ) (m : Image) : Type 0 where
-  pub is-image : m ≡ image_at l m.start
-  pub is-sound : image_sound l m ≡ true
-  pub is-asked : is_asked l vendor device code_type m ≡ true
+  pub is_image : m ≡ image_at l m.start
+  pub is_sound_lem : image_sound l m ≡ true
+  pub is_asked_lem : is_asked l vendor device code_type m ≡ true
 
 module _ (l : List ℕ) (vendor device code_type : ℕ) where
   abbrev asked : Image → Bool
   asked m = is_asked l vendor device code_type m
 
   here : (i : ℕ) (m : Image) → image_at l i ≡ m → image_sound l (image_at l i) ≡ true → asked (image_at l i) ≡ true → Chosen l vendor device code_type m
-  here i m y s a = subst (Chosen l vendor device code_type) y (record { is-image = refl; is-sound = s; is-asked = a })
+  here i m y s a = subst (Chosen l vendor device code_type) y (record { is_image = refl; is_sound_lem = s; is_asked_lem = a })
 
-  in-chain : (i : ℕ) (r : List Image) → Chain l i r → (m : Image) → first asked r ≡ some m → Chosen l vendor device code_type m
-  in-chain i r (last s e) m f = go (asked (image_at l i)) refl f
+  in_chain : (i : ℕ) (r : List Image) → Chain l i r → (m : Image) → first asked r ≡ some m → Chosen l vendor device code_type m
+  in_chain i r (last s e) m f = go (asked (image_at l i)) refl f
     where
       go : (q : Bool) → asked (image_at l i) ≡ q → cond q (some (image_at l i)) none ≡ some m → Chosen l vendor device code_type m
       go true a z = let y : image_at l i ≡ m = cc in here i m y s a
       go false a z = absurd (none-ne-some m z)
-  in-chain i r (next {r = k} s e c) m f = go (λ z. in-chain ((image_at l i).size + i) k c m z) (asked (image_at l i)) refl f
+  in_chain i r (next {r = k} s e c) m f = go (λ z. in_chain ((image_at l i).size + i) k c m z) (asked (image_at l i)) refl f
     where
       go : (first asked k ≡ some m → Chosen l vendor device code_type m)
           → (q : Bool) → asked (image_at l i) ≡ q → cond q (some (image_at l i)) (first asked k) ≡ some m → Chosen l vendor device code_type m
@@ -147,7 +147,7 @@ module _ (l : List ℕ) (vendor device code_type : ℕ) where
     where
       go : (o : Option (List Image)) → images_of l ≡ o → image_among l vendor device code_type o ≡ some m → Chosen l vendor device code_type m
       go none f z = absurd (none-ne-some m z)
-      go (some r) f z = in-chain 0 r ((sound_chain l r).0 (s, f)).1 m z
+      go (some r) f z = in_chain 0 r ((sound_chain l r).0 (s, f)).1 m z
 
 pub image_part_lem : ImagePart
 image_part_lem rom vendor device code_type = go (first_of (image_refusals rom vendor device code_type)) (image_in rom vendor device code_type) refl refl
@@ -163,13 +163,13 @@ image_part_lem rom vendor device code_type = go (first_of (image_refusals rom ve
     go zero (some m) e h z =
         let c = clear ((12 if not (rom_sound rom)) ∷ (13 if is_none (image_in rom vendor device code_type)) ∷ []) (omega arith) e in
         let f = chosen rom vendor device code_type (not-false (rom_sound rom) c.0) m h in
-        let g = sound-image rom m f.is-sound in
-        let s : m.structure ≡ structure_at rom m.start = ap (λ (x : Image). x.structure) f.is-image in
-        let a = and-true _ (eqb (byte rom (0x14 + m.structure)) code_type) f.is-asked in
+        let g = sound_image rom m f.is_sound_lem in
+        let s : m.structure ≡ structure_at rom m.start = ap (λ (x : Image). x.structure) f.is_image in
+        let a = and-true _ (eqb (byte rom (0x14 + m.structure)) code_type) f.is_asked_lem in
         let b = and-true (eqb (word rom (4 + m.structure)) vendor) (eqb (word rom (6 + m.structure)) device) a.0 in (
           omega (arith, g.ends),
-          ap (λ (x : Image). x.size) f.is-image,
-          same-eq (take 2 (drop m.start rom)) image_signature g.signature,
+          ap (λ (x : Image). x.size) f.is_image,
+          same_eq (take 2 (drop m.start rom)) image_signature g.signature,
           ap (λ (n : ℕ). word rom (4 + n)) (sym s) ∙ eqb-true (word rom (4 + m.structure)) vendor b.0,
           ap (λ (n : ℕ). word rom (6 + n)) (sym s) ∙ eqb-true (word rom (6 + m.structure)) device b.1,
           ap (λ (n : ℕ). byte rom (0x14 + n)) (sym s) ∙ eqb-true (byte rom (0x14 + m.structure)) code_type a.1,

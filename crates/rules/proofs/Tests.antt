@@ -6,9 +6,9 @@ use mathlib.Core.Bool.{Bool, true, false, ◌&&◌, ◌||◌, true≢false, and-
 use mathlib.Core.List.{List, [], ◌∷◌}
 use Rattle.rules.specs.Lists.{every}
 
-pub or-false : (a b : Bool) → (a || b) ≡ false → (a ≡ false) × (b ≡ false)
-or-false true b e = absurd (true≢false e)
-or-false false b e = (refl, e)
+pub or_false : (a b : Bool) → (a || b) ≡ false → (a ≡ false) × (b ≡ false)
+or_false true b e = absurd (true≢false e)
+or_false false b e = (refl, e)
 
 pub and-true : (a b : Bool) → (a && b) ≡ true → (a ≡ true) × (b ≡ true)
 and-true true b e = (refl, e)
@@ -17,9 +17,9 @@ and-true false b e = absurd (true≢false (sym e))
 pub and_is : {a b : Bool} → a ≡ true → b ≡ true → (a && b) ≡ true
 and_is {a} {b} p q = cc
 
-pub or-true : (a b : Bool) → (a || b) ≡ true → (a ≡ true) ⊎ (b ≡ true)
-or-true true b e = inl refl
-or-true false b e = inr e
+pub or_true : (a b : Bool) → (a || b) ≡ true → (a ≡ true) ⊎ (b ≡ true)
+or_true true b e = inl refl
+or_true false b e = inr e
 
 pub or_left : (a b : Bool) → a ≡ true → (a || b) ≡ true
 or_left true b e = refl
@@ -39,9 +39,9 @@ and_l a b e = (and-true a b e).0
 pub and_r : (a b : Bool) → (a && b) ≡ true → b ≡ true
 and_r a b e = (and-true a b e).1
 
-pub and-off : (a : Bool) → (a && false) ≡ false
-and-off true = refl
-and-off false = refl
+pub and_off : (a : Bool) → (a && false) ≡ false
+and_off true = refl
+and_off false = refl
 
 -- tests that hold together are the same
 pub same_test : (a b : Bool) → (a ≡ true → b ≡ true) → (b ≡ true → a ≡ true) → a ≡ b
@@ -59,6 +59,6 @@ joined a [] = a
 joined a (b ∷ l) = joined (a && b) l
 
 -- they are those of `every`
-pub joined-every : (a : Bool) (l : List Bool) → joined a l ≡ every (λ q. q) (a ∷ l)
-joined-every a [] = sym (and-on a)
-joined-every a (b ∷ l) = joined-every (a && b) l ∙ and_assoc a b (every (λ q. q) l)
+pub joined_every : (a : Bool) (l : List Bool) → joined a l ≡ every (λ q. q) (a ∷ l)
+joined_every a [] = sym (and-on a)
+joined_every a (b ∷ l) = joined_every (a && b) l ∙ and_assoc a b (every (λ q. q) l)

@@ -46,22 +46,22 @@ size_is (suc (suc t)) = omega arith
 
 module _ (l : List ℕ) where
   -- its numbers, as many as its type has
-  pub numbers-by : (f : Field) → Whole l f → numbers_from (f.size / 4) 0 l f ≡ numbers_from (record_size f.tag / 4) 0 l f
-  numbers-by f w = ap (λ (n : ℕ). numbers_from (n / 4) 0 l f) w.long
+  pub numbers_by : (f : Field) → Whole l f → numbers_from (f.size / 4) 0 l f ≡ numbers_from (record_size f.tag / 4) 0 l f
+  numbers_by f w = ap (λ (n : ℕ). numbers_from (n / 4) 0 l f) w.long
 
   -- the ranges speak of these numbers alone
-  ranges-by : (t : ℕ) (f : Field) → in_ranges t (value l f) ≡ in_ranges t (λ k. get_or (numbers_from (record_size t / 4) 0 l f) k 0)
-  ranges-by zero f = refl
-  ranges-by (suc zero) f = refl
-  ranges-by (suc (suc t)) f = refl
+  ranges_by : (t : ℕ) (f : Field) → in_ranges t (value l f) ≡ in_ranges t (λ k. get_or (numbers_from (record_size t / 4) 0 l f) k 0)
+  ranges_by zero f = refl
+  ranges_by (suc zero) f = refl
+  ranges_by (suc (suc t)) f = refl
 
   -- the record search takes it for a record
-  pub is-record : (f : Field) → Whole l f → is_record l f ≡ true
-  is-record f w = and_is (le-leb f.tag 2 w.known) (eq-eqb (value l f 0) 1 w.revision)
+  pub is_record_lem : (f : Field) → Whole l f → is_record l f ≡ true
+  is_record_lem f w = and_is (le-leb f.tag 2 w.known) (eq-eqb (value l f 0) 1 w.revision)
 
   -- it is sound where its values break no range
-  sound-same : (f : Field) → Whole l f → field_sound l f ≡ setting_sound (setting_at l f)
-  sound-same f w =
+  sound_same : (f : Field) → Whole l f → field_sound l f ≡ setting_sound (setting_at l f)
+  sound_same f w =
       let s : SomeDwords f.size = rw w.long (size_is f.tag) in
       rw (
         le-ltb 2 f.tag w.known,
@@ -69,16 +69,16 @@ module _ (l : List ℕ) where
         eq-eqb (f.size % 4) 0 s.exact,
         eq-eqb (value l f 0) 1 w.revision,
         eq-eqb f.size (record_size f.tag) w.long,
-      ) (ranges-by f.tag f ∙ ap (λ (v : List ℕ). in_ranges f.tag (λ k. get_or v k 0)) (sym (numbers-by f w)))
+      ) (ranges_by f.tag f ∙ ap (λ (v : List ℕ). in_ranges f.tag (λ k. get_or v k 0)) (sym (numbers_by f w)))
 
   -- the same of all fields
   pub all_same : (t : ℕ) (r : List Field) → Fields l t r → every (field_sound l) r ≡ every setting_sound (map (setting_at l) r)
   all_same t [] w = refl
-  all_same t (f ∷ r) w = ap₂ {B = Bool} (λ (x : Bool) y. x && y) (sound-same f w.1) (all_same (suc f.tag) r w.2)
+  all_same t (f ∷ r) w = ap₂ {B = Bool} (λ (x : Bool) y. x && y) (sound_same f w.1) (all_same (suc f.tag) r w.2)
 
   -- a sound field that is a record has the length of its type, and its values break no range
-  pub record-keeps : (f : Field) → is_record l f ≡ true → field_sound l f ≡ true → (eqb f.size (record_size f.tag) ≡ true) × (in_ranges f.tag (value l f) ≡ true)
-  record-keeps f e s =
+  pub record_keeps : (f : Field) → is_record l f ≡ true → field_sound l f ≡ true → (eqb f.size (record_size f.tag) ≡ true) × (in_ranges f.tag (value l f) ≡ true)
+  record_keeps f e s =
       let a = and-true (leb f.tag 2) (eqb (value l f 0) 1) e in
       let b = rw (le-ltb 2 f.tag (leb-true f.tag 2 a.0), a.1) at s in
       let c = and-true (leb 4 f.size && eqb (f.size % 4) 0) (eqb f.size (record_size f.tag) && in_ranges f.tag (value l f)) b in
@@ -88,7 +88,7 @@ module _ (l : List ℕ) where
   is_whole : (f : Field) → is_record l f ≡ true → field_sound l f ≡ true → Whole l f
   is_whole f e s =
       let a = and-true (leb f.tag 2) (eqb (value l f 0) 1) e in
-      record { known = leb-true f.tag 2 a.0; revision = eqb-true (value l f 0) 1 a.1; long = eqb-true f.size (record_size f.tag) (record-keeps f e s).0 }
+      record { known = leb-true f.tag 2 a.0; revision = eqb-true (value l f 0) 1 a.1; long = eqb-true f.size (record_size f.tag) (record_keeps f e s).0 }
 
   -- so are all fields of a sound block that holds only such records
   pub all_whole : (t : ℕ) (r : List Field) → every (λ f. leb t f.tag) r ≡ true → every (is_record l) r ≡ true → pairwise (λ f g. ltb f.tag g.tag) r ≡ true

@@ -18,12 +18,12 @@ use Rattle.rules.specs.Writer.{Setting, present_in, laid_down, setting_sound, wr
 use Rattle.rules.specs.Claims.{written_part, WrittenSound, WrittenReadBack, ReadWrittenAgain}
 use Rattle.rules.specs.declared.Field.{Field}
 use Rattle.rules.specs.declared.Settings.{Settings}
-use Rattle.rules.proofs.Tests.{and-true, and_is, and-off}
+use Rattle.rules.proofs.Tests.{and-true, and_is, and_off}
 use Rattle.rules.proofs.Refusals.{clear}
-use Rattle.rules.proofs.Rising.{every_of, pairwise-of}
-use Rattle.rules.proofs.Whole.{setting_at, Whole, Fields, is-record, all_same, all_whole}
-use Rattle.rules.proofs.Laying.{Records, laid-most, placed_from, fields_read, settings-read, fields-whole, answer_by, place_found, present-rising}
-use Rattle.rules.proofs.Again.{found-by-type, settings-same, block-again}
+use Rattle.rules.proofs.Rising.{every_of, pairwise_of}
+use Rattle.rules.proofs.Whole.{setting_at, Whole, Fields, is_record_lem, all_same, all_whole}
+use Rattle.rules.proofs.Laying.{Records, laid_most, placed_from, fields_read, settings_read, fields_whole, answer_by, place_found, present_rising}
+use Rattle.rules.proofs.Again.{found_by_type, settings_same, block_again}
 
 -- ---- records laid down, as a block
 
@@ -39,63 +39,63 @@ module _ (rs : List Setting) (k : Records 0 rs) (a : dwords_in rs ≡ true) wher
   unfolding fields_of
   fields = fields_read l (length l) 0 0 rs k refl (omega arith) (omega arith)
 
-  are-whole : Fields l 0 r
-  are-whole = fields-whole l 0 0 rs k a refl
+  are_whole : Fields l 0 r
+  are_whole = fields_whole l 0 0 rs k a refl
 
-  same-settings : map (setting_at l) r ≡ rs
-  same-settings = settings-read l 0 rs a refl
+  same_settings : map (setting_at l) r ≡ rs
+  same_settings = settings_read l 0 rs a refl
 
   -- what holds where the type rises holds of every pair
-  by-type : (q : Field → Field → Bool) → ((f g : Field) → f.tag < g.tag → q f g ≡ true) → pairwise q r ≡ true
-  by-type q h = pairwise-of (λ (f : Field). f.tag) (Whole l) q h 0 r are-whole
+  by_type : (q : Field → Field → Bool) → ((f g : Field) → f.tag < g.tag → q f g ≡ true) → pairwise q r ≡ true
+  by_type q h = pairwise_of (λ (f : Field). f.tag) (Whole l) q h 0 r are_whole
 
   -- it is a sound block of records by rising type
-  laid-rising : only_rising l ≡ true
+  laid_rising : only_rising l ≡ true
   unfolding only_rising
-  laid-rising =
+  laid_rising =
       ap (rising_records l) fields
-      ∙ and_is (every_of (λ (f : Field). f.tag) (Whole l) (is_record l) 0 (λ f h w. is-record l f w) r are-whole)
-      (by-type (λ f g. ltb f.tag g.tag) (λ f g h. lt-ltb f.tag g.tag h))
+      ∙ and_is (every_of (λ (f : Field). f.tag) (Whole l) (is_record l) 0 (λ f h w. is_record_lem l f w) r are_whole)
+      (by_type (λ f g. ltb f.tag g.tag) (λ f g h. lt-ltb f.tag g.tag h))
 
-  laid-short : leb (length l) max_block ≡ true
+  laid_short : leb (length l) max_block ≡ true
   unfolding max_block
-  laid-short = le-leb (length l) max_block (omega (arith, laid-most 0 rs (omega arith) k))
+  laid_short = le-leb (length l) max_block (omega (arith, laid_most 0 rs (omega arith) k))
 
-  laid-sound : every setting_sound rs ≡ true → block_sound l ≡ true
+  laid_sound : every setting_sound rs ≡ true → block_sound l ≡ true
   unfolding block_sound
-  laid-sound s =
-      and_is laid-short (ap (sound_fields l) fields ∙ and_is
-      (all_same l 0 r are-whole ∙ ap (every setting_sound) same-settings ∙ s)
-      (by-type (not_twice l) (λ f g h. rw (ne_eqb f.tag g.tag (λ e. omega arith), and-off (is_record l f && is_record l g)))))
+  laid_sound s =
+      and_is laid_short (ap (sound_fields l) fields ∙ and_is
+      (all_same l 0 r are_whole ∙ ap (every setting_sound) same_settings ∙ s)
+      (by_type (not_twice l) (λ f g h. rw (ne_eqb f.tag g.tag (λ e. omega arith), and_off (is_record l f && is_record l g)))))
 
   -- read, it gives the records, each at its place
-  laid-read : present_in (read_settings l) ≡ rs
-  laid-read = settings-same l r fields are-whole ∙ same-settings
+  laid_read : present_in (read_settings l) ≡ rs
+  laid_read = settings_same l r fields are_whole ∙ same_settings
 
-  laid-found : every setting_sound rs ≡ true → (type : ℕ) → find_record [] l type ≡ place_among type 0 rs
-  laid-found s type = rw (laid-sound s) (ap answer_by (found-by-type l r fields are-whole type) ∙ place_found type 0 rs)
+  laid_found : every setting_sound rs ≡ true → (type : ℕ) → find_record [] l type ≡ place_among type 0 rs
+  laid_found s type = rw (laid_sound s) (ap answer_by (found_by_type l r fields are_whole type) ∙ place_found type 0 rs)
 
 -- ---- the writer, not refused
 
 -- the number is 0: no value breaks a range, and the buffer has room
 record Accepted (s : Settings) (buffer : List ℕ) : Type 0 where
   number_is : first_of (write_refusals s buffer) ≡ 0
-  in-range : every setting_sound (present_in s) ≡ true
+  in_range_lem : every setting_sound (present_in s) ≡ true
   has_room : length (laid_down (present_in s)) ≤ length buffer
 
 accepted : (s : Settings) (buffer : List ℕ) → (write_records s buffer).number ≡ 0 → Accepted s buffer
 accepted s buffer z =
     let e = go (first_of (write_refusals s buffer)) z in
     let c = clear (write_refusals s buffer) (omega arith) e in
-    record { number_is = e; in-range = not-false (every setting_sound (present_in s)) c.0; has_room = ltb-false (length buffer) (length (laid_down (present_in s))) c.1.0 }
+    record { number_is = e; in_range_lem = not-false (every setting_sound (present_in s)) c.0; has_room = ltb-false (length buffer) (length (laid_down (present_in s))) c.1.0 }
   where
     go : (k : ℕ) → (written_by k s).number ≡ 0 → k ≡ 0
     go zero e = refl
     go (suc k) e = e
 
 -- the part handed back is the records laid down
-part-is : (s : Settings) (buffer : List ℕ) → Accepted s buffer → written_part s buffer ≡ laid_down (present_in s)
-part-is s buffer d = let l = laid_down (present_in s) in rw d.number_is (take-append_seam l (drop (length l) buffer))
+part_is : (s : Settings) (buffer : List ℕ) → Accepted s buffer → written_part s buffer ≡ laid_down (present_in s)
+part_is s buffer d = let l = laid_down (present_in s) in rw d.number_is (take-append_seam l (drop (length l) buffer))
 
 pub written_sound : WrittenSound
 written_sound s buffer fit z =
@@ -104,15 +104,15 @@ written_sound s buffer fit z =
       rw d.number_is d.has_room,
       rw d.number_is (drop-append_seam l (drop (length l) buffer)),
       rw d.number_is (omega (arith, length-append l (drop (length l) buffer), length-drop (length l) buffer)),
-      rw (part-is s buffer d) (laid-sound (present_in s) (present-rising s) fit d.in-range),
-      rw (part-is s buffer d) (laid-rising (present_in s) (present-rising s) fit),
+      rw (part_is s buffer d) (laid_sound (present_in s) (present_rising s) fit d.in_range_lem),
+      rw (part_is s buffer d) (laid_rising (present_in s) (present_rising s) fit),
     )
 
 pub written_read_back : WrittenReadBack
 written_read_back s buffer fit z =
     let d = accepted s buffer z in (
-      rw (part-is s buffer d) (laid-read (present_in s) (present-rising s) fit),
-      rw (part-is s buffer d) (laid-found (present_in s) (present-rising s) fit d.in-range),
+      rw (part_is s buffer d) (laid_read (present_in s) (present_rising s) fit),
+      rw (part_is s buffer d) (laid_found (present_in s) (present_rising s) fit d.in_range_lem),
     )
 
 -- ---- read and written again
@@ -141,5 +141,5 @@ read_written_again block buffer b s o h = go (fields_of block) refl (and-true (l
         let f = and-true (every (field_sound block) r) (pairwise (not_twice block) r) x in
         let g = and-true (every (is_record block) r) (pairwise (λ (p q : Field). ltb p.tag q.tag) r) y in
         let w = all_whole block 0 r (from_zero r) g.0 g.1 f.0 in
-        let p = settings-same block r e w in
-        rewritten (read_settings block) block buffer (ap (every setting_sound) p ∙ sym (all_same block 0 r w) ∙ f.0) (ap laid_down p ∙ sym (block-again block b r e w)) h
+        let p = settings_same block r e w in
+        rewritten (read_settings block) block buffer (ap (every setting_sound) p ∙ sym (all_same block 0 r w) ∙ f.0) (ap laid_down p ∙ sym (block_again block b r e w)) h

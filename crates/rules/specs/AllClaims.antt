@@ -1,4 +1,4 @@
--- All claims, one field for each. Its one proof is `all-claims`; the public crate uses every field of it.
+-- All claims, one field for each. Its one proof is `all_claims`; the public crate uses every field of it.
 use Rattle.rules.specs.Claims.{EveryAndPair, GrantedLargest, OldRows, RefusalsExactly, RefusedChangesNothing, BuffersKeepLength, RecordPart, ImagePart, SoundChain, ThreeCases, SoundPairs, WrittenSound, WrittenReadBack, ReadWrittenAgain, TablesSound, History, QueriesChangeNothing, HeldUntilReset, ThereAndBack, BackAndThere, OneAddress, Separation, Negotiation}
 use Rattle.rules.specs.BenchSheet.{BenchSheet}
 use Rattle.rules.specs.BenchRuns.{ExampleRuns}

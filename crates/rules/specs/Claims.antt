@@ -302,12 +302,12 @@ module _ (t : Table) (s : SessionNumber) (n : BridgeNumber) (first second taking
 
   -- "The second answer is never masked, and the taking call grants exactly those bits", which are then held
   pub record Negotiated : Type 0 where
-    pub second-number : second_outcome.number ≡ 0
-    pub second-status : status (answer_of second_outcome) ≡ 0
-    pub second-control : control (answer_of second_outcome) ≡ returned
-    pub taking-number : taking_outcome.number ≡ 0
-    pub taking-status : status (answer_of taking_outcome) ≡ 0
-    pub taking-control : control (answer_of taking_outcome) ≡ returned
+    pub second_number : second_outcome.number ≡ 0
+    pub second_status : status (answer_of second_outcome) ≡ 0
+    pub second_control : control (answer_of second_outcome) ≡ returned
+    pub taking_number : taking_outcome.number ≡ 0
+    pub taking_status : status (answer_of taking_outcome) ≡ 0
+    pub taking_control : control (answer_of taking_outcome) ≡ returned
     pub held_after : (bridge_at (step at_taking (right_call s n taking)).table n.0).held ≡ bit_or (bridge_at t n.0).held returned
 
 -- document 02, d: "The three negotiating calls must now carry the same support field"; to a bridge of the old edition they need not, since no bit of it needs support

@@ -22,7 +22,7 @@ use Rattle.rules.specs.declared.Entry.{Entry}
 use Rattle.rules.proofs.Tests.{and_l, and_r, and_is, fails}
 use Rattle.mcfg.proofs.Heads.{shuffle}
 use Rattle.start.specs.Admission.{first_number}
-use Rattle.start.proofs.Listing.{every-snoc, pairwise-snoc, padded-snoc, every_take, pairwise_take, map_snoc}
+use Rattle.start.proofs.Listing.{every_snoc, pairwise_snoc, padded_snoc, every_take, pairwise_take, map_snoc}
 
 -- ---- one row more
 
@@ -42,7 +42,7 @@ module _ (es : List Entry) where
   module _ (rows : List BridgeRow) (r : BridgeRow) where
     one_more : rows_good (rows ++ r ∷ []) ≡ (rows_good rows && admissible rows r)
     one_more =
-        rw (every-snoc (row_sound es) rows r, pairwise-snoc rows_apart rows r)
+        rw (every_snoc (row_sound es) rows r, pairwise_snoc rows_apart rows r)
         (shuffle (every (row_sound es) rows) (row_sound es r) (pairwise rows_apart rows) (every (λ (q : BridgeRow). rows_apart q r) rows))
 
     stored_more : length rows < max_rows → set (array_of rows) (length rows) (bridge_of es r) ≡ array_of (rows ++ r ∷ [])
@@ -52,7 +52,7 @@ module _ (es : List Entry) where
         n = length-map rows (bridge_of es)
 
         stored : padded unused max_rows (map (bridge_of es) rows ++ bridge_of es r ∷ []) ≡ set (array_of rows) (length rows) (bridge_of es r)
-        stored = padded-snoc unused max_rows (map (bridge_of es) rows) (bridge_of es r) (rw n room) ∙ ap (λ (k : ℕ). set (array_of rows) k (bridge_of es r)) n
+        stored = padded_snoc unused max_rows (map (bridge_of es) rows) (bridge_of es r) (rw n room) ∙ ap (λ (k : ℕ). set (array_of rows) k (bridge_of es r)) n
 
   -- the first i rows of a list are sound, apart and stored
   pub record Listed (rows : List BridgeRow) (i : ℕ) (l : List Bridge) : Type 0 where
@@ -60,8 +60,8 @@ module _ (es : List Entry) where
     pub stored : l ≡ array_of (take i rows)
     pub good : rows_good (take i rows) ≡ true
 
-  pub listed-none : (rows : List BridgeRow) → Listed rows 0 (padded unused max_rows [])
-  listed-none rows = record { upto = omega arith; stored = refl; good = refl }
+  pub listed_none : (rows : List BridgeRow) → Listed rows 0 (padded unused max_rows [])
+  listed_none rows = record { upto = omega arith; stored = refl; good = refl }
 
   module _ (rows : List BridgeRow) (i : ℕ) (l : List Bridge) (d : BridgeRow) (listed : Listed rows i l) (left : i < length rows) where
     abbrev here : BridgeRow
@@ -88,9 +88,9 @@ module _ (es : List Entry) where
         put = rw (next, listed.stored) (rw front at (stored_more (take i rows) here room))
 
     -- it is not: the whole list breaks a rule
-    pub listed-stop : admissible (take i rows) here ≡ false → rows_sound es rows ≡ false
+    pub listed_stop : admissible (take i rows) here ≡ false → rows_sound es rows ≡ false
     unfolding rows_sound
-    listed-stop a = fails (leb (length rows) max_rows && every (row_sound es) rows && pairwise rows_apart rows) no
+    listed_stop a = fails (leb (length rows) max_rows && every (row_sound es) rows && pairwise rows_apart rows) no
       where
         no : leb (length rows) max_rows && every (row_sound es) rows && pairwise rows_apart rows ≡ true → ⊥
         no s =
@@ -99,9 +99,9 @@ module _ (es : List Entry) where
             true≢false (sym (and_is (every_take (row_sound es) rows (i + 1) sound) (pairwise_take rows_apart rows (i + 1) apart)) ∙ more ∙ a)
 
   -- all rows are listed
-  pub listed-all : (rows : List BridgeRow) (i : ℕ) (l : List Bridge) → Listed rows i l → length rows ≤ i → length rows ≤ max_rows → (rows_sound es rows ≡ true) × (l ≡ array_of rows)
+  pub listed_all : (rows : List BridgeRow) (i : ℕ) (l : List Bridge) → Listed rows i l → length rows ≤ i → length rows ≤ max_rows → (rows_sound es rows ≡ true) × (l ≡ array_of rows)
   unfolding rows_sound
-  listed-all rows i l listed past few =
+  listed_all rows i l listed past few =
       let w = take_all i rows past in
       let g : rows_good rows ≡ true = rw w at listed.good in (
         and_is
@@ -125,18 +125,18 @@ module _ (x : StartInput) where
   abbrev pub Refused : ℕ → Type 0
   Refused n = (n ≡ start_number x) × (table_of [] ≡ start_table x)
 
-  table-refused : mcfg_sound x.mcfg ≡ false → Refused 6
+  table_refused : mcfg_sound x.mcfg ≡ false → Refused 6
   unfolding start_table start_number
-  table-refused m = rw m (refl, refl)
+  table_refused m = rw m (refl, refl)
 
-  pub rows-refused : mcfg_sound x.mcfg ≡ true → rows_sound es x.rows ≡ false → Refused 7
+  pub rows_refused : mcfg_sound x.mcfg ≡ true → rows_sound es x.rows ≡ false → Refused 7
   unfolding start_table start_number
-  rows-refused m r = rw (m, r) (refl, refl)
+  rows_refused m r = rw (m, r) (refl, refl)
 
   -- a start that is not refused
-  pub all-admitted : mcfg_sound x.mcfg ≡ true → rows_sound es x.rows ≡ true → (0 ≡ start_number x) × (table_of (map (bridge_of es) x.rows) ≡ start_table x)
+  pub all_admitted : mcfg_sound x.mcfg ≡ true → rows_sound es x.rows ≡ true → (0 ≡ start_number x) × (table_of (map (bridge_of es) x.rows) ≡ start_table x)
   unfolding start_table start_number
-  all-admitted m r = rw (m, r) (refl, refl)
+  all_admitted m r = rw (m, r) (refl, refl)
 
   -- what is refused before the first row is judged, by its number
   module _ (n : ℕ) (is : n ≡ first_number x.mcfg (length x.rows)) where
@@ -149,10 +149,10 @@ module _ (x : StartInput) where
         go true false p q e = absurd (omega arith)
         go false b p q e = absurd (omega arith)
 
-    pub first-refuses : (n ≡ 0 → ⊥) → Refused n
-    first-refuses z = go (mcfg_sound x.mcfg) (leb (length x.rows) max_rows) refl refl is
+    pub first_refuses : (n ≡ 0 → ⊥) → Refused n
+    first_refuses z = go (mcfg_sound x.mcfg) (leb (length x.rows) max_rows) refl refl is
       where
         go : (a b : Bool) → mcfg_sound x.mcfg ≡ a → leb (length x.rows) max_rows ≡ b → n ≡ first_of ((6 if not a) ∷ (7 if not b) ∷ []) → Refused n
         go true true p q e = absurd (z e)
-        go true false p q e = rw e (rows-refused p (too_many es x.rows (leb-false (length x.rows) max_rows q)))
-        go false b p q e = rw e (table-refused p)
+        go true false p q e = rw e (rows_refused p (too_many es x.rows (leb-false (length x.rows) max_rows q)))
+        go false b p q e = rw e (table_refused p)

@@ -13,23 +13,23 @@ use Rattle.mcfg.proofs.Heads.{shuffle}
 module _ {A : Type 0} where
   -- one element more, at the end
 
-  pub every-snoc : (p : A → Bool) (l : List A) (x : A) → every p (l ++ x ∷ []) ≡ (every p l && p x)
-  every-snoc p [] x = and-true (p x)
-  every-snoc p (y ∷ l) x = ap (λ (t : Bool). p y && t) (every-snoc p l x) ∙ sym (and_assoc (p y) (every p l) (p x))
+  pub every_snoc : (p : A → Bool) (l : List A) (x : A) → every p (l ++ x ∷ []) ≡ (every p l && p x)
+  every_snoc p [] x = and-true (p x)
+  every_snoc p (y ∷ l) x = ap (λ (t : Bool). p y && t) (every_snoc p l x) ∙ sym (and_assoc (p y) (every p l) (p x))
 
-  pub pairwise-snoc : (p : A → A → Bool) (l : List A) (x : A) → pairwise p (l ++ x ∷ []) ≡ (pairwise p l && every (λ (y : A). p y x) l)
-  pairwise-snoc p [] x = refl
-  pairwise-snoc p (y ∷ l) x =
-      rw (every-snoc (p y) l x, pairwise-snoc p l x) (shuffle (every (p y) l) (p y x) (pairwise p l) (every (λ (z : A). p z x) l))
+  pub pairwise_snoc : (p : A → A → Bool) (l : List A) (x : A) → pairwise p (l ++ x ∷ []) ≡ (pairwise p l && every (λ (y : A). p y x) l)
+  pairwise_snoc p [] x = refl
+  pairwise_snoc p (y ∷ l) x =
+      rw (every_snoc (p y) l x, pairwise_snoc p l x) (shuffle (every (p y) l) (p y x) (pairwise p l) (every (λ (z : A). p z x) l))
 
-  pub padded-snoc : (d : A) (n : ℕ) (l : List A) (x : A) → length l < n → padded d n (l ++ x ∷ []) ≡ set (padded d n l) (length l) x
-  padded-snoc d zero l x h = absurd (omega arith)
-  padded-snoc d (suc n) [] x h = refl
-  padded-snoc d (suc n) (y ∷ l) x h = ap (λ (k : List A). y ∷ k) (padded-snoc d n l x (omega arith))
+  pub padded_snoc : (d : A) (n : ℕ) (l : List A) (x : A) → length l < n → padded d n (l ++ x ∷ []) ≡ set (padded d n l) (length l) x
+  padded_snoc d zero l x h = absurd (omega arith)
+  padded_snoc d (suc n) [] x h = refl
+  padded_snoc d (suc n) (y ∷ l) x h = ap (λ (k : List A). y ∷ k) (padded_snoc d n l x (omega arith))
 
-  pub padded-none : (d : A) (n : ℕ) → padded d n [] ≡ replicate n d
-  padded-none d zero = refl
-  padded-none d (suc n) = ap (λ (k : List A). d ∷ k) (padded-none d n)
+  pub padded_none : (d : A) (n : ℕ) → padded d n [] ≡ replicate n d
+  padded_none d zero = refl
+  padded_none d (suc n) = ap (λ (k : List A). d ∷ k) (padded_none d n)
 
   -- the front of a list that passes
 
@@ -37,17 +37,17 @@ module _ {A : Type 0} where
   every_front p [] k e = refl
   every_front p (y ∷ l) k e = and_is (and_l (p y) (every p (l ++ k)) e) (every_front p l k (and_r (p y) (every p (l ++ k)) e))
 
-  pairwise-front : (p : A → A → Bool) (l k : List A) → pairwise p (l ++ k) ≡ true → pairwise p l ≡ true
-  pairwise-front p [] k e = refl
-  pairwise-front p (y ∷ l) k e = and_is
+  pairwise_front : (p : A → A → Bool) (l k : List A) → pairwise p (l ++ k) ≡ true → pairwise p l ≡ true
+  pairwise_front p [] k e = refl
+  pairwise_front p (y ∷ l) k e = and_is
       (every_front (p y) l k (and_l (every (p y) (l ++ k)) (pairwise p (l ++ k)) e))
-      (pairwise-front p l k (and_r (every (p y) (l ++ k)) (pairwise p (l ++ k)) e))
+      (pairwise_front p l k (and_r (every (p y) (l ++ k)) (pairwise p (l ++ k)) e))
 
   pub every_take : (p : A → Bool) (l : List A) (i : ℕ) → every p l ≡ true → every p (take i l) ≡ true
   every_take p l i e = every_front p (take i l) (drop i l) (ap (every p) (take-append-drop i l) ∙ e)
 
   pub pairwise_take : (p : A → A → Bool) (l : List A) (i : ℕ) → pairwise p l ≡ true → pairwise p (take i l) ≡ true
-  pairwise_take p l i e = pairwise-front p (take i l) (drop i l) (ap (pairwise p) (take-append-drop i l) ∙ e)
+  pairwise_take p l i e = pairwise_front p (take i l) (drop i l) (ap (pairwise p) (take-append-drop i l) ∙ e)
 
 module _ {A B : Type 0} (f : A → B) where
   pub map_snoc : (l : List A) (x : A) → map f (l ++ x ∷ []) ≡ map f l ++ f x ∷ []

@@ -23,7 +23,7 @@ use denote.Lend.{lends_shr_slice}
 use denote.ArrayMemory.{Single, Array-apart, Array-whole}
 use denote.Index.{row}
 use Rattle.walks.proofs.Values.{Value}
-use Rattle.walks.proofs.Arrays.{IsArray, Whole, to-memory, to-local}
+use Rattle.walks.proofs.Arrays.{IsArray, Whole, to_memory, to_local}
 
 pub take_min : {A : Type 0} (l : List A) (c k : ℕ) → length l ≡ k → take (min c k) l ≡ take c l
 take_min l c k e = go (leb c k) refl
@@ -77,10 +77,10 @@ module _ (V' : Value) (N l : ℕ) where
       pub lends_first : K → Soaks G → Single R.mir → IsArray V' N l xs → Room R (length (take n xs))
           → ((α : ℕ) (γ : GName) → Seq K 𝓛 (‵ (flft (α ∷ []) full_share) ∷ ‵ ((ShrSlice erased (α ∷ []) R).own_val (first n xs γ) (shr_slice_vals (first n xs γ))) ∷ ‵ (flent (α ∷ []) (Parts n xs)) ∷ ‵ (rest R full_share n xs l 0) ∷ Γ) G) → Seq K 𝓛 (‵ (Whole V' N l xs) ∷ Γ) G
       lends_first t z s is room k =
-          to-memory V' N l t xs is $ use1 𝓛 (‵ (Apart xs)) (Array-apart 𝓛 R full_share s N xs l 0) $ fsplit t $ drop t $ use1 𝓛 (‵ (row R full_share (take n xs) l 0) ⊛ ‵ (rest R full_share n xs l 0)) (cuts R full_share 𝓛 n xs l 0) $ split t $ feq_i t ℕ (length (take n xs)) (length (take n xs)) refl $ fjoin t $
+          to_memory V' N l t xs is $ use1 𝓛 (‵ (Apart xs)) (Array-apart 𝓛 R full_share s N xs l 0) $ fsplit t $ drop t $ use1 𝓛 (‵ (row R full_share (take n xs) l 0) ⊛ ‵ (rest R full_share n xs l 0)) (cuts R full_share 𝓛 n xs l 0) $ split t $ feq_i t ℕ (length (take n xs)) (length (take n xs)) refl $ fjoin t $
           lft_new t z (λ α. move t (1 ∷ []) $ use1 𝓛 (later (some (λ (γ : GName). ‵ ((ShrSlice erased (α ∷ []) R).own_val (first n xs γ) (shr_slice_vals (first n xs γ))) ⊛ ‵ (flent (α ∷ []) (Parts n xs))))) (lends_shr_slice 𝓛 R erased (α ∷ []) full_share (take n xs) l 0 room) $
           await t z $ pick t (λ γ. split t $ move t (2 ∷ []) $ k α γ))
 
       pub first_back : K → Soaks G → IsArray V' N l xs → (α : ℕ) → Step K 𝓛 (‵ (Whole V' N l xs) ∷ Γ) G (‵ (flft (α ∷ []) full_share) ∷ ‵ (flent (α ∷ []) (Parts n xs)) ∷ ‵ (rest R full_share n xs l 0) ∷ Γ) G
       first_back t z is α = step (λ k. lft_end t z $ lent_back t z $ fsplit t $ drop t $ use2 𝓛 (‵ (row R full_share xs l 0)) (glues R full_share 𝓛 n xs l 0) $
-          feq_i t ℕ (length xs) N is.1.0.1 $ fjoin t $ use1 𝓛 (‵ (part_at (Array R N) full_share xs l 0)) (Array-whole 𝓛 R full_share N xs l 0) $ to-local V' N l t xs (λ _. k))
+          feq_i t ℕ (length xs) N is.1.0.1 $ fjoin t $ use1 𝓛 (‵ (part_at (Array R N) full_share xs l 0)) (Array-whole 𝓛 R full_share N xs l 0) $ to_local V' N l t xs (λ _. k))

@@ -2,8 +2,8 @@
 --     Lent             the closed borrow, where h lies behind the reference
 --     function         its signature.        passed      the machine values that it is passed.        Entering      what its walk begins with
 --     exits            what is to be shown at the return, from the closed borrow, the tokens, what is said of the parameters' last values, and what is ensured
---     on-borrow        it meets its contract, by a walk from the closed borrow, the tokens and what the parameters own
--- `exits` assumes `Logic`, `on-borrow` nothing.
+--     on_borrow        it meets its contract, by a walk from the closed borrow, the tokens and what the parameters own
+-- `exits` assumes `Logic`, `on_borrow` nothing.
 use types.Logic.{Logic}
 use denote.Ref.{MutBor, mut_vals}
 use mathlib.Core.List.{[], ◌∷◌, List}
@@ -54,13 +54,13 @@ module _ (R : RattleType) {n : ℕ} (Ps : List (Param n)) (D : Value) where
         split ! $ move ! (2 ∷ []) $ fsplit ! $ fsplit3 ! $ drop ! $ move ! (0 ∷ 1 ∷ 3 ∷ 4 ∷ 2 ∷ []) $ by ! h
 
   -- the function requires φ of what came in
-  pub on-borrow : {M : Type 1} {𝓤 : Ura M} (𝓛 : Logic 𝓤) (𝓜 : Model 𝓤 𝓛.H) (𝓡 : Running 𝓤 𝓛.H 𝓜) (c : Clauses 𝓤 function) (φ : R.Denot → Type 0)
+  pub on_borrow : {M : Type 1} {𝓤 : Ura M} (𝓛 : Logic 𝓤) (𝓜 : Model 𝓤 𝓛.H) (𝓡 : Running 𝓤 𝓛.H 𝓜) (c : Clauses 𝓤 function) (φ : R.Denot → Type 0)
       → ((κs : Lfts (suc n)) (x : MutBor R.Denot) (a : Args (outer n) κs Ps) (g : (c κs (x, a)).ghost) → ent 𝓤 ((c κs (x, a)).requires g) (fact 𝓤 (φ x.now)))
       → (γ : Routines) (own : Name) (f : Fn) → Entry 𝓤 𝓛.H (tables 𝓤 𝓛.H 𝓜 𝓡 γ).C (tables 𝓤 𝓛.H 𝓜 𝓡 γ).Λ own f
       → ((κs : Lfts (suc n)) (qs : Shares (suc n)) (x : MutBor R.Denot) (a : Args (outer n) κs Ps) (g : (c κs (x, a)).ghost) → Sound (outer n) κs Ps a → φ x.now
       → Sq 𝓛 (Entering 𝓛 c κs qs x a g) (prop (WpFn 𝓤 𝓛.H (machine 𝓛 𝓜 𝓡 γ).C (machine 𝓛 𝓜 𝓡 γ).Λ f (passed 𝓛 c κs qs x a g) (Post 𝓛 function c κs qs (x, a) g))))
       → Triple 𝓤 ((tables 𝓤 𝓛.H 𝓜 𝓡 γ).C own) (Contracted 𝓛 function c)
-  on-borrow {𝓤 = 𝓤} 𝓛 𝓜 𝓡 c φ requires γ own f closed walk =
+  on_borrow {𝓤 = 𝓤} 𝓛 𝓜 𝓡 c φ requires γ own f closed walk =
       walked 𝓛 𝓜 𝓡 γ function c own f closed (λ κs. (mut_vals, spells (outer n) κs Ps)) (λ κs. (mut_Tells (named 0) κs.0 R, all_tell (outer n) κs Ps)) (λ κs qs bounds (x, a) g are.
       let P : SProp 𝓤 = on_entry 𝓛 function.signature κs qs (x, a) (mut_vals x, spelt (outer n) κs Ps a) in
       via 𝓤 (sep 𝓤 P (fact 𝓤 (φ x.now))) (mono_r 𝓤 P (requires κs x a g)) (needs 𝓤 (φ x.now) P (λ holds. enters 𝓛 c κs qs x a g _ (walk κs qs x a g are.1 holds).prf)))

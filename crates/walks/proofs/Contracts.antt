@@ -1,11 +1,11 @@
 -- A function's contract, and how a proof by hand meets it: by a walk of the function's code, whatever it is over.
 --     Contracted       the contract, as a triple.        Post       what it promises of a run: its last part
 --     ends             Post, from the tokens, a result, what is said of the parameters' last values, and what is ensured of these
---     came-back        as a step: the same taken apart, where a callee has returned
+--     came_back        as a step: the same taken apart, where a callee has returned
 --     meets            a run meets the contract, from a walk with the parameters' machine values written out and their relations in hand
 --     machine          what a program's calls and loops run on.        Clauses-of      a contract's clauses, as each crate's theorems have them
 --     walked           a function of the program meets its contract, by such a walk of its code.        known      a callee does, by the theorem of its own
--- `ends`, `came-back` and `meets` assume `Logic`, `walked` and `known` nothing.
+-- `ends`, `came_back` and `meets` assume `Logic`, `walked` and `known` nothing.
 use mathlib.Core.Path.{◌≡◌}
 use mathlib.Core.List.{List, [], ◌∷◌}
 use Rattle.walks.proofs.Kit.{Ura, Name, Fn, Val, SProp, ent, sep, wand, ex, via, comm∗, mono_l, wand_i, apply∗, id⊢, Memory, Model, Routine, Routines, WpFn, Tables, Entry, sem, Fun, Lfts, Shares, AllOutlive, Running, tables, Goal, Item, Seq, Soaks, ‵, raw, ◌⊛◌, some, later, ⋆, ◌$◌, ◌∵◌, !, qed, move, use1, split, join, pick, await, show, frame, updating, now as at_once, done, flat, Ises, Are, Spells, valss, Tellss, Signature, type_at, types_at, said, Ended, Clauses, Lasts, at_exit, lasts, ensured, closing, Args, Vals, Res, alive, on_entry, Contract, Triple}
@@ -39,8 +39,8 @@ module _ {M : Type 1} {𝓤 : Ura M} (𝓛 : Logic 𝓤) (T : Ended) (c : Clause
           qed 𝓛 (Left r v ws []) ∵ updating ! $ at_once ! $ show ! (λ (r' : Res S κs). sep 𝓤 (sep 𝓤 (alive 𝓛 S κs qs) (sem 𝓛 ((type_at S.result κs).own_val r' (v ∷ [])))) (ensured 𝓛 T c κs a g r')) r $
           join ! $ frame ! $ show ! (λ (ws' : Lasts T κs a). sep 𝓤 (sem 𝓛 (lasts T κs a ws')) ((c κs a).ensures g r (at_exit T κs a ws'))) ws $ done !
 
-      pub came-back : {K : Type 0} {Γ : List (Item 𝓤)} {G : Goal 𝓤 H} → K → Soaks G → (v : Val) → ((r : Res S κs) (ws : Lasts T κs a) → Seq K 𝓛 (Left r v ws Γ) G) → Seq K 𝓛 (raw (Post v) ∷ Γ) G
-      came-back t z v k =
+      pub came_back : {K : Type 0} {Γ : List (Item 𝓤)} {G : Goal 𝓤 H} → K → Soaks G → (v : Val) → ((r : Res S κs) (ws : Lasts T κs a) → Seq K 𝓛 (Left r v ws Γ) G) → Seq K 𝓛 (raw (Post v) ∷ Γ) G
+      came_back t z v k =
           use1 𝓛 (later (some (λ (r : Res S κs). (raw (alive 𝓛 S κs qs) ⊛ Own r v) ⊛ some (λ (ws : Lasts T κs a). ‵ (lasts T κs a ws) ⊛ raw ((c κs a).ensures g r (at_exit T κs a ws)))))) (id⊢ 𝓤 _) $
           await t z $ pick t (λ r. split t $ move t (1 ∷ []) $ pick t (λ ws. split t $ move t (2 ∷ []) $ split t $ k r ws))
 

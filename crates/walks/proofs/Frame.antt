@@ -2,10 +2,10 @@
 --     Blocks           where they lie.        locals, envs      the MIR's list of them, and what they are bound to
 --     Cells            their memory as one formula, by the values that they hold; the values not listed are not there.        filled      with a value in one of them
 --     stack            the same entry by entry, the last local in front.        spread, pack        from the one to the other
---     alloc_all, free_all      they are allocated, and freed.        pass_all      the first of them are passed values of their types (`Typed`).        enters, leaves      a function of known locals is entered, and left.        enters-as      by its locals and body as they are
+--     alloc_all, free_all      they are allocated, and freed.        pass_all      the first of them are passed values of their types (`Typed`).        enters, leaves      a function of known locals is entered, and left.        enters_as      by its locals and body as they are
 --     Has, Bound       the environment has a local at a number, and locals of these types from a number on.        finds       a place in such a local
---     Groups, group-locals, env-from, first_of         of groups of locals, one behind the other: where they lie, the MIR's list of them, the environment from one on, and the number of its first.        in_group        the environment has them there
---     Cell             a cell among those of a formula: it can be taken out, and put back.        first_cell, later-cell, reads      it is the first, or a later one, and is read there
+--     Groups, group_locals, env_from, first_of         of groups of locals, one behind the other: where they lie, the MIR's list of them, the environment from one on, and the number of its first.        in_group        the environment has them there
+--     Cell             a cell among those of a formula: it can be taken out, and put back.        first_cell, later_cell, reads      it is the first, or a later one, and is read there
 --     those            n positions from k on, for `move`
 -- The steps assume `Logic`, the others nothing.
 use mathlib.Core.Path.{◌≡◌, refl, sym, subst}
@@ -105,15 +105,15 @@ abbrev pub Groups : List (List Ty) → Type 0
 Groups [] = Unit {0}
 Groups (τs ∷ gs) = Blocks τs × Groups gs
 
-abbrev pub group-locals : List (List Ty) → List Local
-group-locals [] = []
-group-locals (τs ∷ gs) = locals τs ++ group-locals gs
+abbrev pub group_locals : List (List Ty) → List Local
+group_locals [] = []
+group_locals (τs ∷ gs) = locals τs ++ group_locals gs
 
 -- the environment from group k on, the number of its first local, its types and its blocks
-abbrev pub env-from : (gs : List (List Ty)) → Groups gs → ℕ → List (Ty × ℕ)
-env-from [] bs k = []
-env-from (τs ∷ gs) bs zero = envs τs bs.0 ++ env-from gs bs.1 zero
-env-from (τs ∷ gs) bs (suc k) = env-from gs bs.1 k
+abbrev pub env_from : (gs : List (List Ty)) → Groups gs → ℕ → List (Ty × ℕ)
+env_from [] bs k = []
+env_from (τs ∷ gs) bs zero = envs τs bs.0 ++ env_from gs bs.1 zero
+env_from (τs ∷ gs) bs (suc k) = env_from gs bs.1 k
 
 abbrev pub first_of : List (List Ty) → ℕ → ℕ
 first_of [] k = zero
@@ -130,10 +130,10 @@ blocks [] bs k = tt
 blocks (τs ∷ gs) bs zero = bs.0
 blocks (τs ∷ gs) bs (suc k) = blocks gs bs.1 k
 
-pub in_group : {M : Type 1} (𝓤 : Ura M) (H : Heap 𝓤) (gs : List (List Ty)) (bs : Groups gs) (k : ℕ) → Bound 𝓤 H (env-from gs bs zero) (first_of gs k) (group gs k) (blocks gs bs k)
+pub in_group : {M : Type 1} (𝓤 : Ura M) (H : Heap 𝓤) (gs : List (List Ty)) (bs : Groups gs) (k : ℕ) → Bound 𝓤 H (env_from gs bs zero) (first_of gs k) (group gs k) (blocks gs bs k)
 in_group 𝓤 H [] bs k = tt
-in_group 𝓤 H (τs ∷ gs) bs zero = bound 𝓤 H τs bs.0 (env-from gs bs.1 zero)
-in_group 𝓤 H (τs ∷ gs) bs (suc k) = deeper 𝓤 H τs bs.0 (env-from gs bs.1 zero) (first_of gs k) (group gs k) (blocks gs bs.1 k) (in_group 𝓤 H gs bs.1 k)
+in_group 𝓤 H (τs ∷ gs) bs zero = bound 𝓤 H τs bs.0 (env_from gs bs.1 zero)
+in_group 𝓤 H (τs ∷ gs) bs (suc k) = deeper 𝓤 H τs bs.0 (env_from gs bs.1 zero) (first_of gs k) (group gs k) (blocks gs bs.1 k) (in_group 𝓤 H gs bs.1 k)
 
 module _ {M : Type 1} {𝓤 : Ura M} (𝓛 : Logic 𝓤) where
   open 𝓛 use {H}
@@ -171,19 +171,19 @@ module _ {M : Type 1} {𝓤 : Ura M} (𝓛 : Logic 𝓤) where
       pass_all τs vs ok.1 ls.1 {Γ = ‵ (fat full_share τ ls.0 0 v) ∷ ‵ (fdies τ ls.0) ∷ Γ} E (move ! (1 ∷ 2 ∷ 0 ∷ []) $ fjoin ! $ fjoin ! $ k)
 
   -- a function of these locals and this body is entered
-  pub enters-as : (C : Calls 𝓤 H) (Λ : Loops 𝓤 H) (f : Fn) (vs : List Val) (Post : Val → SProp 𝓤) {ls : List Local} {body : Code} → f.locals ≡ ls → f.body ≡ body → {Γ : List (Item 𝓤)} → Sq 𝓛 Γ (allocs ls (λ E. params' E vs (runs C Λ E body (at_ret E Post)))) → Sq 𝓛 Γ (prop (WpFn 𝓤 H C Λ f vs Post))
-  enters-as C Λ f vs Post f-locals f-body {Γ} k = enter ! C Λ f vs Post $ subst (λ (p : List Local × Code). Sq 𝓛 Γ (allocs p.0 (λ E. params' E vs (runs C Λ E p.1 (at_ret E Post))))) (λ z. (sym f-locals z, sym f-body z)) k
+  pub enters_as : (C : Calls 𝓤 H) (Λ : Loops 𝓤 H) (f : Fn) (vs : List Val) (Post : Val → SProp 𝓤) {ls : List Local} {body : Code} → f.locals ≡ ls → f.body ≡ body → {Γ : List (Item 𝓤)} → Sq 𝓛 Γ (allocs ls (λ E. params' E vs (runs C Λ E body (at_ret E Post)))) → Sq 𝓛 Γ (prop (WpFn 𝓤 H C Λ f vs Post))
+  enters_as C Λ f vs Post f-locals f-body {Γ} k = enter ! C Λ f vs Post $ subst (λ (p : List Local × Code). Sq 𝓛 Γ (allocs p.0 (λ E. params' E vs (runs C Λ E p.1 (at_ret E Post))))) (λ z. (sym f-locals z, sym f-body z)) k
 
   -- all of a function's locals
-  alloc-these : (ls : List Local) {Γ : List (Item 𝓤)} {Kt : Env 𝓤 H → Goal 𝓤 H} → ((bs : Blocks (tys_of ls)) → Sq 𝓛 (‵ (Cells (tys_of ls) bs []) ∷ Γ) (Kt (envs (tys_of ls) bs ++ []))) → Sq 𝓛 Γ (allocs ls Kt)
-  alloc-these [] k = alloc0 ! $ nothing ! $ k tt
-  alloc-these (local τ h ∷ ls) {Kt = Kt} k = alloc1 ! (λ l. alloc-these ls {Kt = λ E. Kt ((τ, l) ∷ E)} (λ bs. move ! (1 ∷ 2 ∷ 0 ∷ []) $ fjoin ! $ fjoin ! $ k (l, bs)))
+  alloc_these : (ls : List Local) {Γ : List (Item 𝓤)} {Kt : Env 𝓤 H → Goal 𝓤 H} → ((bs : Blocks (tys_of ls)) → Sq 𝓛 (‵ (Cells (tys_of ls) bs []) ∷ Γ) (Kt (envs (tys_of ls) bs ++ []))) → Sq 𝓛 Γ (allocs ls Kt)
+  alloc_these [] k = alloc0 ! $ nothing ! $ k tt
+  alloc_these (local τ h ∷ ls) {Kt = Kt} k = alloc1 ! (λ l. alloc_these ls {Kt = λ E. Kt ((τ, l) ∷ E)} (λ bs. move ! (1 ∷ 2 ∷ 0 ∷ []) $ fjoin ! $ fjoin ! $ k (l, bs)))
 
   -- a function of known locals, the result's first and then its parameters', is entered
   pub enters : (C : Calls 𝓤 H) (Λ : Loops 𝓤 H) (f : Fn) (vs : List Val) (Post : Val → SProp 𝓤) (τ : Ty) (τs : List Ty) → tys_of f.locals ≡ τ ∷ τs → Typed τs vs → {Γ : List (Item 𝓤)}
       → ((ls : Blocks (τ ∷ τs)) → Sq 𝓛 (stack (τ ∷ τs) ls (none ∷ map some vs) Γ) (runs C Λ (envs (τ ∷ τs) ls ++ []) f.body (at_ret (envs (τ ∷ τs) ls ++ []) Post))) → Sq 𝓛 Γ (prop (WpFn 𝓤 H C Λ f vs Post))
   enters C Λ f vs Post τ τs e ok {Γ} k =
-      enter ! C Λ f vs Post $ alloc-these f.locals (subst (λ (σs : List Ty). (bs : Blocks σs) → Sq 𝓛 (‵ (Cells σs bs []) ∷ Γ) (params' (envs σs bs ++ []) vs (runs C Λ (envs σs bs ++ []) f.body (at_ret (envs σs bs ++ []) Post)))) (sym e) (λ (l, ls).
+      enter ! C Λ f vs Post $ alloc_these f.locals (subst (λ (σs : List Ty). (bs : Blocks σs) → Sq 𝓛 (‵ (Cells σs bs []) ∷ Γ) (params' (envs σs bs ++ []) vs (runs C Λ (envs σs bs ++ []) f.body (at_ret (envs σs bs ++ []) Post)))) (sym e) (λ (l, ls).
       fsplit ! $ fsplit ! $ move ! (2 ∷ []) $ params1 ! $ pass_all τs vs ok ls [] (spread τs ls (map some vs) (k (l, ls)))))
 
   -- and left, whatever its locals hold
@@ -201,8 +201,8 @@ module _ {M : Type 1} {𝓤 : Ura M} (𝓛 : Logic 𝓤) where
   pub first_cell : (τ : Ty) (l : ℕ) (v : Val) (D F : Fml) → Cell 𝓛 (fsep (fsep (fat full_share τ l 0 v) D) F) τ l v
   first_cell τ l v D F = let c = sem 𝓛 (fat full_share τ l 0 v) in record { others = sep 𝓤 (sem 𝓛 D) (sem 𝓛 F); out = assoc∗ 𝓤 c (sem 𝓛 D) (sem 𝓛 F); back = assoc' 𝓤 c (sem 𝓛 D) (sem 𝓛 F) }
 
-  pub later-cell : {τ : Ty} {l : ℕ} {v : Val} (D : Fml) {F : Fml} → Cell 𝓛 F τ l v → Cell 𝓛 (fsep D F) τ l v
-  later-cell {τ} {l} {v} D {F} x = record {
+  pub later_cell : {τ : Ty} {l : ℕ} {v : Val} (D : Fml) {F : Fml} → Cell 𝓛 F τ l v → Cell 𝓛 (fsep D F) τ l v
+  later_cell {τ} {l} {v} D {F} x = record {
     others = sep 𝓤 (sem 𝓛 D) x.others;
     out = qed 𝓛 (‵ D ∷ ‵ F ∷ []) ∵ move ! (1 ∷ []) $ use1 𝓛 (‵ (fat full_share τ l 0 v) ⊛ raw x.others) x.out $ split ! $ move ! (0 ∷ 2 ∷ []) $ done !;
     back = qed 𝓛 (‵ (fat full_share τ l 0 v) ∷ ‵ D ∷ raw x.others ∷ []) ∵ move ! (0 ∷ 2 ∷ []) $ use2 𝓛 (‵ F) x.back $ move ! (1 ∷ 0 ∷ []) $ done !;

@@ -1,8 +1,8 @@
 -- A part of a value in memory: it is taken out, and it or another is put in its place. For any type, any field, any element type and any length.
 --     Inside           R at h lies at (b, o), with F at f in it at (b, p); with f' there it is R at h'
 --     _then_           what is inside a part is inside the whole
---     item-put         element i of an array is inside, to be replaced
---     record-look, record-put      element i of a field that is an array of structs is inside, to be left as it is or replaced: of the field's `look_at` or `put-at` (borrow.Struct.Behind)
+--     item_put         element i of an array is inside, to be replaced
+--     record_look, record_put      element i of a field that is an array of structs is inside, to be left as it is or replaced: of the field's `look_at` or `put-at` (borrow.Struct.Behind)
 --     take, put        as steps: the part is taken out, its machine value written out and its relation in hand; and put in its place
 -- The lemmas assume `Logic`.
 use mathlib.Core.Path.{◌≡◌, refl, sym, ◌∙◌, subst}
@@ -50,11 +50,11 @@ module _ {M : Type 1} {𝓤 : Ura M} (𝓛 : Logic 𝓤) where
           use1 𝓛 (‵ (part_at (Array R n) q ys b o)) (Array-whole 𝓛 R q n ys b o) $ done !));
     }
 
-    item-look : Inside q (Array R n) R xs xs x x b o p
-    item-look = item x xs refl (glance 𝓛 (Sh R q) d i xs b o)
+    item_look : Inside q (Array R n) R xs xs x x b o p
+    item_look = item x xs refl (glance 𝓛 (Sh R q) d i xs b o)
 
-    pub item-put : (y : R.Denot) → Inside q (Array R n) R xs (set xs i y) x y b o p
-    item-put y = item y (set xs i y) (length-set xs i y) (focus 𝓛 (Sh R q) d y i xs b o)
+    pub item_put : (y : R.Denot) → Inside q (Array R n) R xs (set xs i y) x y b o p
+    item_put y = item y (set xs i y) (length-set xs i y) (focus 𝓛 (Sh R q) d y i xs b o)
 
 module _ {M : Type 1} {𝓤 : Ura M} {𝓛 : Logic 𝓤} where
   pub ◌then◌ : {q : Share} {R F G : RattleType} {h h' : R.Denot} {f f' : F.Denot} {g g' : G.Denot} {b o p r : ℕ} → Inside 𝓛 q R F h h' f f' b o p → Inside 𝓛 q F G f f' g g' b p r → Inside 𝓛 q R G h h' g g' b o r
@@ -74,11 +74,11 @@ module _ {M : Type 1} {𝓤 : Ura M} (𝓛 : Logic 𝓤) (q : Share) (R : Rattle
     abbrev Records : R.Denot → List E.D → Type 1
     Records h' ys = Cut 𝓛 q R (Array (Struct (shape E)) n) d h h' (map E.to xs) (map E.to ys) (b, o)
 
-    pub record-look : Records h xs → Inside 𝓛 q R (row E) h h (get_or xs i x₀) (get_or xs i x₀) b o p
-    record-look c = record { cut = cut-records 𝓛 q R E n d h h xs xs (b, o) c } then item-look 𝓛 q (row E) one n i p b (o + d) xs x₀ e lt
+    pub record_look : Records h xs → Inside 𝓛 q R (row E) h h (get_or xs i x₀) (get_or xs i x₀) b o p
+    record_look c = record { cut = cut-records 𝓛 q R E n d h h xs xs (b, o) c } then item_look 𝓛 q (row E) one n i p b (o + d) xs x₀ e lt
 
-    pub record-put : (y : E.D) (h' : R.Denot) → Records h' (set xs i y) → Inside 𝓛 q R (row E) h h' (get_or xs i x₀) y b o p
-    record-put y h' c = record { cut = cut-records 𝓛 q R E n d h h' xs (set xs i y) (b, o) c } then item-put 𝓛 q (row E) one n i p b (o + d) xs x₀ e lt y
+    pub record_put : (y : E.D) (h' : R.Denot) → Records h' (set xs i y) → Inside 𝓛 q R (row E) h h' (get_or xs i x₀) y b o p
+    record_put y h' c = record { cut = cut-records 𝓛 q R E n d h h' xs (set xs i y) (b, o) c } then item_put 𝓛 q (row E) one n i p b (o + d) xs x₀ e lt y
 
 -- the way back, with f' there
 abbrev pub Back : {M : Type 1} {𝓤 : Ura M} {𝓛 : Logic 𝓤} {q : Share} {R F : RattleType} {h h' : R.Denot} {f f' : F.Denot} {b o p : ℕ} → Inside 𝓛 q R F h h' f f' b o p → Item 𝓤

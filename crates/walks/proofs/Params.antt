@@ -1,10 +1,10 @@
 -- The parameters of a function, in a list: values, shared slices and `&mut` slices.
 --     Form             how a parameter is handed on: its local is copied, or, of a `&mut` slice, lent on through two further locals
---     Param n          a parameter's type at n lifetimes: `value`, `shared-slice` and `mut_slice` are the kinds.        Handing      what a caller must have of it, and has after the call
+--     Param n          a parameter's type at n lifetimes: `value`, `shared_slice` and `mut_slice` are the kinds.        Handing      what a caller must have of it, and has after the call
 --     View             a signature that has these lifetimes among its own: `inner`, a function's own, and `outer`, that of a function of a `&mut` besides, whose lifetime 0 is the reference's
 --     slots, tys, all_typed    of a list of these in such a signature: the slots, the MIR types of their locals, and that machine values are of the types
 --     Args, Sound, vals, Owns, Lasts'        the arguments, that each is one of its type, their machine values, what they own, and their last values
---     carry, vals-same, owns-same, lasts-back, lasts-same      from a signature to `inner`, and back: the machine values, what is owned, and what is said of last values stay
+--     carry, vals_same, owns_same, lasts_back, lasts_same      from a signature to `inner`, and back: the machine values, what is owned, and what is said of last values stay
 -- Assumes nothing; the laws take `Logic`.
 use types.Logic.{Logic, sem}
 use denote.Ref.{Bor, MutBor}
@@ -52,9 +52,9 @@ module _ {X : Type 0} where
   next (copied τ v) e = e
   next (lent τ p c) e = suc (suc e)
 
-  abbrev pub lend-one : Form X → (k e : ℕ) → Code → Code
-  lend-one (copied τ v) k e rest = rest
-  lend-one (lent τ p c) k e rest = seq (assign (place e []) (addr_of (place k (field 0 ∷ deref τ ∷ [])))) (seq (assign (place (suc e) []) (aggregate (copy (place e []) ∷ copy (place k (field 1 ∷ [])) ∷ []))) rest)
+  abbrev pub lend_one : Form X → (k e : ℕ) → Code → Code
+  lend_one (copied τ v) k e rest = rest
+  lend_one (lent τ p c) k e rest = seq (assign (place e []) (addr_of (place k (field 0 ∷ deref τ ∷ [])))) (seq (assign (place (suc e) []) (aggregate (copy (place e []) ∷ copy (place k (field 1 ∷ [])) ∷ []))) rest)
 
   abbrev pub operand : Form X → (k e : ℕ) → Operand
   operand (copied τ v) k e = copy (place k [])
@@ -109,8 +109,8 @@ module _ {n : ℕ} where
   }
 
   -- at the lifetime j
-  abbrev pub shared-slice : (j : ℕ) → Within n j → RattleType → Param n
-  shared-slice j ok R = record {
+  abbrev pub shared_slice : (j : ℕ) → Within n j → RattleType → Param n
+  shared_slice j ok R = record {
     Denot = Bor (List R.Denot);
     form = copied (λ ℓ. slice_ty (ty_ref ℓ imm (pointee R.written))) (λ x. slice_val x.ref_ptr (length x.now));
     lifetime = j;
@@ -214,22 +214,22 @@ module _ {n : ℕ} (X : View n) (κs : Lfts X.lifetimes) where
   carry [] a = tt
   carry (P ∷ Ps) a = (a.0, carry Ps a.1)
 
-  pub vals-same : (Ps : List (Param n)) (a : Args X κs Ps) → vals (inner n) κs' Ps (carry Ps a) ≡ vals X κs Ps a
-  vals-same [] a = refl
-  vals-same (P ∷ Ps) a = ap (λ (vs : List Val). val_of P.form a.0 ∷ vs) (vals-same Ps a.1)
+  pub vals_same : (Ps : List (Param n)) (a : Args X κs Ps) → vals (inner n) κs' Ps (carry Ps a) ≡ vals X κs Ps a
+  vals_same [] a = refl
+  vals_same (P ∷ Ps) a = ap (λ (vs : List Val). val_of P.form a.0 ∷ vs) (vals_same Ps a.1)
 
-  pub owns-same : (Ps : List (Param n)) (a : Args X κs Ps) → Owns X κs Ps a ≡ Owns (inner n) κs' Ps (carry Ps a)
-  owns-same [] a = refl
-  owns-same (P ∷ Ps) a = ap (fsep (P.own κs' a.0 (val_of P.form a.0 ∷ []))) (owns-same Ps a.1)
+  pub owns_same : (Ps : List (Param n)) (a : Args X κs Ps) → Owns X κs Ps a ≡ Owns (inner n) κs' Ps (carry Ps a)
+  owns_same [] a = refl
+  owns_same (P ∷ Ps) a = ap (fsep (P.own κs' a.0 (val_of P.form a.0 ∷ []))) (owns_same Ps a.1)
 
   -- what a contract binds of them at exit, and what it says of that
   abbrev pub Lasts' : (Ps : List (Param n)) → Args X κs Ps → Type 0
   Lasts' Ps a = Fins κs' (slots (inner n) Ps) (all yes (slots (inner n) Ps)) (carry Ps a)
 
-  abbrev pub lasts-back : (Ps : List (Param n)) (a : Args X κs Ps) → Lasts' Ps a → Fins κs (slots X Ps) (all yes (slots X Ps)) a
-  lasts-back [] a ws = tt
-  lasts-back (P ∷ Ps) a ws = (ws.0, lasts-back Ps a.1 ws.1)
+  abbrev pub lasts_back : (Ps : List (Param n)) (a : Args X κs Ps) → Lasts' Ps a → Fins κs (slots X Ps) (all yes (slots X Ps)) a
+  lasts_back [] a ws = tt
+  lasts_back (P ∷ Ps) a ws = (ws.0, lasts_back Ps a.1 ws.1)
 
-  pub lasts-same : (Ps : List (Param n)) (a : Args X κs Ps) (ws : Lasts' Ps a) → lasts_of κs' (slots (inner n) Ps) (all yes (slots (inner n) Ps)) (carry Ps a) ws ≡ lasts_of κs (slots X Ps) (all yes (slots X Ps)) a (lasts-back Ps a ws)
-  lasts-same [] a ws = refl
-  lasts-same (P ∷ Ps) a ws = ap (fsep (left (P.exit (yes (X.name P.lifetime))) a.0 ws.0)) (lasts-same Ps a.1 ws.1)
+  pub lasts_same : (Ps : List (Param n)) (a : Args X κs Ps) (ws : Lasts' Ps a) → lasts_of κs' (slots (inner n) Ps) (all yes (slots (inner n) Ps)) (carry Ps a) ws ≡ lasts_of κs (slots X Ps) (all yes (slots X Ps)) a (lasts_back Ps a ws)
+  lasts_same [] a ws = refl
+  lasts_same (P ∷ Ps) a ws = ap (fsep (left (P.exit (yes (X.name P.lifetime))) a.0 ws.0)) (lasts_same Ps a.1 ws.1)

@@ -2,8 +2,8 @@
 --     Still            these parameters are seen at exit as they were passed: `refl` for each
 --     Closing          what the walk is handed for its end: what is to be shown at the return, from the tokens, a result, and what is ensured of it
 --     Beginning        what it begins with
---     on-shared        the function meets its contract, by a walk from the tokens, what the slices own, and what is required
--- `on-shared` assumes nothing, the others `Logic`.
+--     on_shared        the function meets its contract, by a walk from the tokens, what the slices own, and what is required
+-- `on_shared` assumes nothing, the others `Logic`.
 use mathlib.Core.Path.{◌≡◌, sym, subst}
 use mathlib.Core.Bool.{true}
 use Prim.Native.Nat.{ℕ}
@@ -12,7 +12,7 @@ use Rattle.walks.proofs.Kit.{Ura, Name, Fn, SProp, ent, sep, emp, via, id⊢, em
 use Rattle.walks.proofs.Values.{Value}
 use Rattle.walks.proofs.Contracts.{Contracted, Post, ends, machine, walked}
 use Rattle.walks.proofs.Params.{Param, inner, slots, Args, spells, all_tell, vals, Owns, Sound}
-use Rattle.walks.proofs.Calls.{tokens, needed, Asked, tokens-in, tokens-out, all_give, callee}
+use Rattle.walks.proofs.Calls.{tokens, needed, Asked, tokens_in, tokens_out, all_give, callee}
 use types.Logic.{Logic, sem}
 
 abbrev pub Still : {n : ℕ} → List (Param n) → Type 1
@@ -44,7 +44,7 @@ module _ (n : ℕ) (Ps : List (Param n)) (D : Value) where
     closing still r is said =
         let (ws, left) = all_left 𝓛 κs Ps still a in
         record {
-          prf = via 𝓤 _ (⊢++ 𝓛 (tokens n κs qs) []) (via 𝓤 _ (fst∗ 𝓤 (⋆ 𝓛 (tokens n κs qs)) (emp 𝓤)) (via 𝓤 _ (tokens-in 𝓛 n κs qs) (
+          prf = via 𝓤 _ (⊢++ 𝓛 (tokens n κs qs) []) (via 𝓤 _ (fst∗ 𝓤 (⋆ 𝓛 (tokens n κs qs)) (emp 𝓤)) (via 𝓤 _ (tokens_in 𝓛 n κs qs) (
               qed 𝓛 (raw (toks 𝓤 A n κs qs) ∷ []) ∵ suffices ! _ (ends 𝓛 T c κs qs a g r (D.val r) ws) $ frame ! $ owned ! D.row (Is D.row) (D.makes 𝓛) r _ is $ frame ! $
               use0 𝓛 (‵ (lasts T κs a ws)) left $ frame ! $ use0 𝓛 (raw ((c κs a).ensures g r (at_exit T κs a ws))) (said ws) $ done !)));
         }
@@ -56,11 +56,11 @@ module _ (n : ℕ) (Ps : List (Param n)) (D : Value) where
     beginning =
         let R : SProp 𝓤 = (c κs a).requires g in
         via 𝓤 _ (assoc∗ 𝓤 (toks 𝓤 A n κs qs) (sem 𝓛 (Owns (inner n) κs Ps a)) R)
-        (via 𝓤 _ (mono∗ 𝓤 (tokens-out 𝓛 n κs qs) (via 𝓤 _ (mono_l 𝓤 R (all_give 𝓛 κs Ps a)) (++⊢ 𝓛 (needed κs Ps a) (raw R ∷ [])))) (++⊢ 𝓛 (tokens n κs qs) (needed κs Ps a ++ raw R ∷ [])))
+        (via 𝓤 _ (mono∗ 𝓤 (tokens_out 𝓛 n κs qs) (via 𝓤 _ (mono_l 𝓤 R (all_give 𝓛 κs Ps a)) (++⊢ 𝓛 (needed κs Ps a) (raw R ∷ [])))) (++⊢ 𝓛 (tokens n κs qs) (needed κs Ps a ++ raw R ∷ [])))
 
-  pub on-shared : {M : Type 1} {𝓤 : Ura M} (𝓛 : Logic 𝓤) (𝓜 : Model 𝓤 𝓛.H) (𝓡 : Running 𝓤 𝓛.H 𝓜) (c : Clauses 𝓤 T) → Still Ps → (γ : Routines) (own : Name) (f : Fn) → Entry 𝓤 𝓛.H (tables 𝓤 𝓛.H 𝓜 𝓡 γ).C (tables 𝓤 𝓛.H 𝓜 𝓡 γ).Λ own f
+  pub on_shared : {M : Type 1} {𝓤 : Ura M} (𝓛 : Logic 𝓤) (𝓜 : Model 𝓤 𝓛.H) (𝓡 : Running 𝓤 𝓛.H 𝓜) (c : Clauses 𝓤 T) → Still Ps → (γ : Routines) (own : Name) (f : Fn) → Entry 𝓤 𝓛.H (tables 𝓤 𝓛.H 𝓜 𝓡 γ).C (tables 𝓤 𝓛.H 𝓜 𝓡 γ).Λ own f
       → ((κs : Lfts n) (qs : Shares n) (a : Args (inner n) κs Ps) (g : (c κs a).ghost) → Sound (inner n) κs Ps a → Closing 𝓛 c κs qs a g
       → Sq 𝓛 (Beginning 𝓛 c κs qs a g) (prop (WpFn 𝓤 𝓛.H (machine 𝓛 𝓜 𝓡 γ).C (machine 𝓛 𝓜 𝓡 γ).Λ f (vals (inner n) κs Ps a) (Post 𝓛 T c κs qs a g))))
       → Triple 𝓤 ((tables 𝓤 𝓛.H 𝓜 𝓡 γ).C own) (Contracted 𝓛 T c)
-  on-shared {𝓤 = 𝓤} 𝓛 𝓜 𝓡 c still γ own f closed walk =
+  on_shared {𝓤 = 𝓤} 𝓛 𝓜 𝓡 c still γ own f closed walk =
       walked 𝓛 𝓜 𝓡 γ T c own f closed (λ κs. spells (inner n) κs Ps) (λ κs. all_tell (inner n) κs Ps) (λ κs qs bounds a g are. via 𝓤 _ (beginning 𝓛 c κs qs a g) (walk κs qs a g are (closing 𝓛 c κs qs a g still)).prf)

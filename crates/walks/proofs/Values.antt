@@ -1,6 +1,6 @@
 -- Plain data: a value is one machine value, and owns only facts.
 --     Value            such a type: `number`, `truth`, `struct` and `array` are the kinds, `word` the number that lengths are
---     repeated-is      an array of one value n times is one
+--     repeated_is      an array of one value n times is one
 --     told             as a step: of a value that came back, the machine value is written out and the relation in hand, and what it owns is let go
 -- Assumes nothing; the laws and the step take `Logic`.
 use mathlib.Core.Path.{refl, sym, ap, subst}
@@ -50,12 +50,12 @@ array V' n = record {
 }
 
 module _ (V' : Value) where
-  each-repeated : (n : ℕ) (x : V'.row.Denot) → Is V'.row x (V'.val x ∷ []) → shadow (each V'.row.Denot V'.row.own_val (replicate n x) (map V'.val (replicate n x)))
-  each-repeated zero x is = tt
-  each-repeated (suc n) x is = (is, each-repeated n x is)
+  each_repeated : (n : ℕ) (x : V'.row.Denot) → Is V'.row x (V'.val x ∷ []) → shadow (each V'.row.Denot V'.row.own_val (replicate n x) (map V'.val (replicate n x)))
+  each_repeated zero x is = tt
+  each_repeated (suc n) x is = (is, each_repeated n x is)
 
-  pub repeated-is : (n : ℕ) (x : V'.row.Denot) → Is V'.row x (V'.val x ∷ []) → Is (array V' n).row (replicate n x) ((array V' n).val (replicate n x) ∷ [])
-  repeated-is n x is = (map V'.val (replicate n x), ((refl, length-replicate n x), each-repeated n x is))
+  pub repeated_is : (n : ℕ) (x : V'.row.Denot) → Is V'.row x (V'.val x ∷ []) → Is (array V' n).row (replicate n x) ((array V' n).val (replicate n x) ∷ [])
+  repeated_is n x is = (map V'.val (replicate n x), ((refl, length-replicate n x), each_repeated n x is))
 
 pub told : {M : Type 1} {𝓤 : Ura M} {𝓛 : Logic 𝓤} {K : Type 0} {Γ : List (Item 𝓤)} → K → (V' : Value) (G : Val → Goal 𝓤 𝓛.H) (x : V'.row.Denot) (v : Val) → (Is V'.row x (V'.val x ∷ []) → Seq K 𝓛 Γ (G (V'.val x))) → Seq K 𝓛 (‵ (V'.row.own_val x (v ∷ [])) ∷ Γ) (G v)
 told {𝓤 = 𝓤} {𝓛} {K} {Γ} t V' G x v k =

@@ -3,8 +3,8 @@ use Rattle.std.proofs.Common.{◌≡◌, ℕ, suc, ◌+◌, ◌≤◌, List, [],
 use lib.Seq.{sets-eq}
 
 -- two stores are a splice, and so are four
-pub two-stored : (b : List ℕ) (at w x : ℕ) → 2 + at ≤ length b → set (set b at w) (1 + at) x ≡ take at b ++ (w ∷ x ∷ []) ++ drop (2 + at) b
-two-stored b at w x h = simp (one, two) (sets-eq (w ∷ x ∷ []) b at (omega arith))
+pub two_stored : (b : List ℕ) (at w x : ℕ) → 2 + at ≤ length b → set (set b at w) (1 + at) x ≡ take at b ++ (w ∷ x ∷ []) ++ drop (2 + at) b
+two_stored b at w x h = simp (one, two) (sets-eq (w ∷ x ∷ []) b at (omega arith))
   where
     one : 1 + at ≡ suc at
     one = omega arith
@@ -12,9 +12,9 @@ two-stored b at w x h = simp (one, two) (sets-eq (w ∷ x ∷ []) b at (omega ar
     two : 2 + at ≡ at + 2
     two = omega arith
 
-pub four-stored : (b : List ℕ) (at w x y z : ℕ) → 4 + at ≤ length b
+pub four_stored : (b : List ℕ) (at w x y z : ℕ) → 4 + at ≤ length b
     → set (set (set (set b at w) (1 + at) x) (2 + at) y) (3 + at) z ≡ take at b ++ (w ∷ x ∷ y ∷ z ∷ []) ++ drop (4 + at) b
-four-stored b at w x y z h = simp (one, two, three, four) (sets-eq (w ∷ x ∷ y ∷ z ∷ []) b at (omega arith))
+four_stored b at w x y z h = simp (one, two, three, four) (sets-eq (w ∷ x ∷ y ∷ z ∷ []) b at (omega arith))
   where
     one : 1 + at ≡ suc at
     one = omega arith

@@ -9,12 +9,12 @@ use lib.ListN.{length, get_or, take, drop, set, length-append, take-append-drop}
 use lib.Seq.{length-take-le, take-suc, take-length, take_at, drop_at, drop-drop, set_split}
 use Rattle.rules.specs.Numbers.{le16, le32, dwords}
 use Rattle.rules.specs.Writer.{record_bytes}
-use Rattle.rules.proofs.Laying.{dwords-length}
+use Rattle.rules.proofs.Laying.{dwords_length}
 use Rattle.writer.specs.Splices.{splice}
 
 -- no bytes change nothing
-pub splice-none : (at : ℕ) (b : List ℕ) → b ≡ splice at [] b
-splice-none at b =
+pub splice_none : (at : ℕ) (b : List ℕ) → b ≡ splice at [] b
+splice_none at b =
     sym (ap₂ (λ (l : List ℕ) (n : ℕ). l ++ drop n b) (append-nil (take at b)) (none at) ∙ take-append-drop at b)
   where
     none : (n : ℕ) → 0 + n ≡ n
@@ -22,21 +22,21 @@ splice-none at b =
 
 -- what was to be written, and where it ends, where that is nothing, and where it is y
 pub nothing_written : (at : ℕ) (x b : List ℕ) → x ≡ [] → (at ≡ length x + at) × (b ≡ splice at x b)
-nothing_written at x b e = rw e (omega arith, splice-none at b)
+nothing_written at x b e = rw e (omega arith, splice_none at b)
 
-pub these-written : (at n : ℕ) (x y b b₁ : List ℕ) → x ≡ y → n ≡ length y + at → b₁ ≡ splice at y b → (n ≡ length x + at) × (b₁ ≡ splice at x b)
-these-written at n x y b b₁ e f g = rw e (f, g)
+pub these_written : (at n : ℕ) (x y b b₁ : List ℕ) → x ≡ y → n ≡ length y + at → b₁ ≡ splice at y b → (n ≡ length x + at) × (b₁ ≡ splice at x b)
+these_written at n x y b b₁ e f g = rw e (f, g)
 
 -- at the start
-pub splice-first : (x b : List ℕ) → splice 0 x b ≡ x ++ drop (length x) b
-splice-first x b = ap (λ (n : ℕ). x ++ drop n b) (none (length x))
+pub splice_first : (x b : List ℕ) → splice 0 x b ≡ x ++ drop (length x) b
+splice_first x b = ap (λ (n : ℕ). x ++ drop n b) (none (length x))
   where
     none : (n : ℕ) → n + 0 ≡ n
     none n = omega arith
 
 -- bytes behind those already written
-pub splice-next : (at : ℕ) (x y b : List ℕ) → at ≤ length b → (n : ℕ) → n ≡ length x + at → splice n y (splice at x b) ≡ splice at (x ++ y) b
-splice-next at x y b h n e =
+pub splice_next : (at : ℕ) (x y b : List ℕ) → at ≤ length b → (n : ℕ) → n ≡ length x + at → splice n y (splice at x b) ≡ splice at (x ++ y) b
+splice_next at x y b h n e =
     ap₂ (λ (p q : List ℕ). p ++ y ++ q) front back ∙ ap₂ (λ (p : List ℕ) (k : ℕ). p ++ drop k b) (append_assoc (take at b) x y) (all (length x) (length y) n at e ∙ ap (λ (k : ℕ). k + at) (sym (length-append x y)))
   where
     long : length (take at b ++ x) ≡ n
@@ -59,56 +59,56 @@ splice-next at x y b h n e =
         ∙ drop-drop (length y) n b
 
 -- three, from the start on
-pub three-written : (x y z b b₁ b₂ b₃ : List ℕ) (m n : ℕ) → m ≡ length x + 0 → n ≡ length y + m
+pub three_written : (x y z b b₁ b₂ b₃ : List ℕ) (m n : ℕ) → m ≡ length x + 0 → n ≡ length y + m
     → b₁ ≡ splice 0 x b → b₂ ≡ splice m y b₁ → b₃ ≡ splice n z b₂ → b₃ ≡ (x ++ y ++ z) ++ drop (length (x ++ y ++ z)) b
-three-written x y z b b₁ b₂ b₃ m n i j e f g =
+three_written x y z b b₁ b₂ b₃ m n i j e f g =
     g
-    ∙ ap (splice n z) (f ∙ ap (splice m y) e ∙ splice-next 0 x y b (omega arith) m i)
-    ∙ splice-next 0 (x ++ y) z b (omega arith) n (omega (arith, length-append x y))
-    ∙ splice-first (x ++ y ++ z) b
+    ∙ ap (splice n z) (f ∙ ap (splice m y) e ∙ splice_next 0 x y b (omega arith) m i)
+    ∙ splice_next 0 (x ++ y) z b (omega arith) n (omega (arith, length-append x y))
+    ∙ splice_first (x ++ y ++ z) b
 
 -- ---- numbers
 
-dwords-append : (v w : List ℕ) → dwords (v ++ w) ≡ dwords v ++ dwords w
-dwords-append [] w = refl
-dwords-append (x ∷ v) w = ap (λ (l : List ℕ). le32 x ++ l) (dwords-append v w) ∙ sym (append_assoc (le32 x) (dwords v) (dwords w))
+dwords_append : (v w : List ℕ) → dwords (v ++ w) ≡ dwords v ++ dwords w
+dwords_append [] w = refl
+dwords_append (x ∷ v) w = ap (λ (l : List ℕ). le32 x ++ l) (dwords_append v w) ∙ sym (append_assoc (le32 x) (dwords v) (dwords w))
 
 -- k numbers are written
 abbrev pub numbers_written : ℕ → ℕ → (v b : List ℕ) → List ℕ
 numbers_written k at v b = splice at (dwords (take k v)) b
 
 -- one more
-pub number-next : (k at : ℕ) (v b₀ b b₁ : List ℕ) → k < length v → at ≤ length b₀ → b ≡ numbers_written k at v b₀
+pub number_next : (k at : ℕ) (v b₀ b b₁ : List ℕ) → k < length v → at ≤ length b₀ → b ≡ numbers_written k at v b₀
     → b₁ ≡ splice (4 * k + at) (le32 (get_or v k 0)) b → b₁ ≡ numbers_written (k + 1) at v b₀
-number-next k at v b₀ b b₁ h i e f =
+number_next k at v b₀ b b₁ h i e f =
     f
     ∙ ap (splice (4 * k + at) (le32 (get_or v k 0))) e
-    ∙ splice-next at (dwords (take k v)) (le32 (get_or v k 0)) b₀ i (4 * k + at) place
+    ∙ splice_next at (dwords (take k v)) (le32 (get_or v k 0)) b₀ i (4 * k + at) place
     ∙ ap (λ (x : List ℕ). splice at x b₀) (sym more)
   where
     place : 4 * k + at ≡ length (dwords (take k v)) + at
-    place = ap (λ (n : ℕ). n + at) (sym (dwords-length (take k v) ∙ ap (λ (n : ℕ). 4 * n) (length-take-le k v (omega arith))))
+    place = ap (λ (n : ℕ). n + at) (sym (dwords_length (take k v) ∙ ap (λ (n : ℕ). 4 * n) (length-take-le k v (omega arith))))
 
     next : (n : ℕ) → n + 1 ≡ suc n
     next n = omega arith
 
     more : dwords (take (k + 1) v) ≡ dwords (take k v) ++ le32 (get_or v k 0)
-    more = ap dwords (ap (λ (n : ℕ). take n v) (next k) ∙ take-suc v k 0 h) ∙ dwords-append (take k v) (get_or v k 0 ∷ [])
+    more = ap dwords (ap (λ (n : ℕ). take n v) (next k) ∙ take-suc v k 0 h) ∙ dwords_append (take k v) (get_or v k 0 ∷ [])
 
 -- all of them
-pub numbers-all : (k at : ℕ) (v b₀ b : List ℕ) → k ≡ length v → b ≡ numbers_written k at v b₀ → b ≡ splice at (dwords v) b₀
-numbers-all k at v b₀ b h e = e ∙ ap (λ (x : List ℕ). splice at (dwords x) b₀) (ap (λ (n : ℕ). take n v) h ∙ take-length v)
+pub numbers_all : (k at : ℕ) (v b₀ b : List ℕ) → k ≡ length v → b ≡ numbers_written k at v b₀ → b ≡ splice at (dwords v) b₀
+numbers_all k at v b₀ b h e = e ∙ ap (λ (x : List ℕ). splice at (dwords x) b₀) (ap (λ (n : ℕ). take n v) h ∙ take-length v)
 
 -- ---- a record
 
 -- a tag stored, a length and numbers written behind it
-pub record-written : (at tag : ℕ) (v b b₁ b₂ : List ℕ) → 3 + 4 * length v + at ≤ length b
+pub record_written : (at tag : ℕ) (v b b₁ b₂ : List ℕ) → 3 + 4 * length v + at ≤ length b
     → b₁ ≡ splice (1 + at) (le16 (4 * length v)) (set b at tag) → b₂ ≡ splice (3 + at) (dwords v) b₁
     → b₂ ≡ splice at (record_bytes (record { type = tag; numbers = v })) b
-record-written at tag v b b₁ b₂ h e f =
+record_written at tag v b b₁ b₂ h e f =
     f
-    ∙ ap (splice (3 + at) (dwords v)) (e ∙ ap (splice (1 + at) (le16 (4 * length v))) stored ∙ splice-next at (tag ∷ []) (le16 (4 * length v)) b (omega arith) (1 + at) refl)
-    ∙ splice-next at (tag ∷ le16 (4 * length v)) (dwords v) b (omega arith) (3 + at) refl
+    ∙ ap (splice (3 + at) (dwords v)) (e ∙ ap (splice (1 + at) (le16 (4 * length v))) stored ∙ splice_next at (tag ∷ []) (le16 (4 * length v)) b (omega arith) (1 + at) refl)
+    ∙ splice_next at (tag ∷ le16 (4 * length v)) (dwords v) b (omega arith) (3 + at) refl
   where
     stored : set b at tag ≡ splice at (tag ∷ []) b
     stored =

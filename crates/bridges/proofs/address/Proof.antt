@@ -2,7 +2,7 @@
 use mathlib.Core.Path.{refl}
 use Rattle.rules.specs.Limits.{max_rows}
 use Rattle.rules.specs.Calls.{address}
-use Rattle.bridges.proofs.AtIndex.{index-sound, as_read}
+use Rattle.bridges.proofs.AtIndex.{index_sound, as_read}
 use borrow.Author.Rules.{rules}
 use Rattle.bridges.proofs.address.Statement.{statement}
 use Rattle.bridges.proofs.address.Tie as tie
@@ -18,7 +18,7 @@ element-copy-out-b c = search rules
 address-requires : tie.Need-address-requires
 address-requires c κs =
     let a = c.before.before in
-    rw c.before.index.ensures (index-sound a.args.t1 max_rows a.requires.few a.args.n a.requires)
+    rw c.before.index.ensures (index_sound a.args.t1 max_rows a.requires.few a.args.n a.requires)
 
 returns : tie.Need-returns
 returns c =

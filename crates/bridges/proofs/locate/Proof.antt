@@ -6,7 +6,7 @@ use borrow.Author.Rules.{rules}
 use Rattle.rules.specs.Limits.{max_rows}
 use Rattle.rules.specs.Calls.{step}
 use Rattle.locate.specs.declared.Search.{Search}
-use Rattle.locate.proofs.Seeking.{Seeking, seek-first, seek-on, seek-near, seek-end}
+use Rattle.locate.proofs.Seeking.{Seeking, seek_first, seek_on, seek_near, seek_end}
 use Rattle.bridges.proofs.locate.Statement.{statement}
 use Rattle.bridges.proofs.locate.Tie as tie
 
@@ -19,7 +19,7 @@ decreases-loop s address t n p₀ p = t.count - p.next
 loop-holds : tie.Need-loop-init invariant-loop decreases-loop
 loop-holds c =
     let a = c.before.args in
-    subst (Seeking a.t1 a.s a.address) (sym c.begin.ensures) (seek-first a.t1 a.s a.address)
+    subst (Seeking a.t1 a.s a.address) (sym c.begin.ensures) (seek_first a.t1 a.s a.address)
 
 mul-seek : tie.Need-overflow-mul-seek invariant-loop decreases-loop
 unfolding max_rows
@@ -38,21 +38,21 @@ loop-again c =
     let z = c.before.before.before.before.before.before in
     let l = c.before.before.before.before.loop in
     subst (Seeking z.args.t1 z.args.s z.args.address) (sym c.seek.ensures)
-    (seek-on z.args.t1 z.args.s z.args.address z.requires l.p l.invariant c.before.before.if1.true)
+    (seek_on z.args.t1 z.args.s z.args.address z.requires l.p l.invariant c.before.before.if1.true)
 
 loop-less : tie.Need-loop-smaller invariant-loop decreases-loop
 loop-less c =
     let z = c.before.before.before.before.before.before in
     let l = c.before.before.before.before.loop in
     subst (λ (q : Search). z.args.t1.count - q.next < z.args.t1.count - l.p.next) (sym c.seek.ensures)
-    (seek-near z.args.t1 z.args.s z.args.address z.requires l.p l.invariant c.before.before.if1.true)
+    (seek_near z.args.t1 z.args.s z.args.address z.requires l.p l.invariant c.before.before.if1.true)
 
 returns : tie.Need-returns invariant-loop decreases-loop
 unfolding step
 returns c =
     let z = c.before.before.before.before.before in
     let l = c.before.before.before.loop in
-    (seek-end z.args.t1 z.args.s z.args.address z.requires l.p l.invariant c.before.if1.false, refl)
+    (seek_end z.args.t1 z.args.s z.args.address z.requires l.p l.invariant c.before.if1.false, refl)
 
 pub locate-spec : {M : Type 1} → statement M
 locate-spec =

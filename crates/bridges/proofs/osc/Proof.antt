@@ -1,7 +1,7 @@
 -- `bridges::osc` meets its contract: the call on the bridge at its index is the call on the table.
 use Rattle.rules.specs.Limits.{max_rows}
 use Rattle.rules.specs.Calls.{osc}
-use Rattle.bridges.proofs.AtIndex.{as-done}
+use Rattle.bridges.proofs.AtIndex.{as_done}
 use borrow.Author.Rules.{rules}
 use Rattle.bridges.proofs.osc.Statement.{statement}
 use Rattle.bridges.proofs.osc.Tie as tie
@@ -27,7 +27,7 @@ returns c =
     let i = c.before.before.before.before.before.before in
     let a = i.before.before.before.before in
     let o = osc a.args.revision a.args.count a.args.uuid.now a.args.caps.now a.args.answer.now in
-    as-done a.args.t1 a.requires a.args.s a.args.n _ i.index.ensures o c.before.before.before.osc.ensures
+    as_done a.args.t1 a.requires a.args.s a.args.n _ i.index.ensures o c.before.before.before.osc.ensures
 
 pub osc-spec : {M : Type 1} → statement M
 osc-spec =

@@ -1,7 +1,7 @@
 -- `bridges::reset` meets its contract: the call on the bridge at its index is the call on the table.
 use Rattle.rules.specs.Limits.{max_rows}
 use Rattle.rules.specs.Calls.{reset}
-use Rattle.bridges.proofs.AtIndex.{as-done}
+use Rattle.bridges.proofs.AtIndex.{as_done}
 use borrow.Author.Rules.{rules}
 use Rattle.bridges.proofs.reset.Statement.{statement}
 use Rattle.bridges.proofs.reset.Tie as tie
@@ -25,7 +25,7 @@ element-set-from-bridge c = search rules
 returns : tie.Need-returns
 returns c =
     let a = c.before.before.before.before in
-    as-done a.args.t1 a.requires a.args.s a.args.n _ c.before.before.before.index.ensures reset c.before.reset.ensures
+    as_done a.args.t1 a.requires a.args.s a.args.n _ c.before.before.before.index.ensures reset c.before.reset.ensures
 
 pub reset-spec : {M : Type 1} → statement M
 reset-spec =

@@ -1,13 +1,13 @@
 -- A row is judged as start judges it; where the walk ends, the array is cleared if a row was refused.
 use Rattle.std.proofs.Common.{arith}
 use Rattle.rules.specs.Limits.{max_rows}
-use Rattle.start.proofs.Judging.{reached-none, in_table, reached-next, cleared, kept}
+use Rattle.start.proofs.Judging.{reached_none, in_table, reached_next, cleared, kept}
 use Rattle.lent_rows.proofs.judge.Goals as goal
 use Rattle.lent_rows.proofs.judge.Goals.{then-number-first, else-number-first}
 
 pub loop-i-init : goal.loop-i-init
 unfolding max_rows
-loop-i-init c = rw c.unused-none.ensures (reached-none _ _ _ c.first_number-first.ensures c.if_done-n.ensures)
+loop-i-init c = rw c.unused-none.ensures (reached_none _ _ _ c.first_number-first.ensures c.if_done-n.ensures)
 
 pub bounds-bridges-i : goal.bounds-bridges-i
 unfolding max_rows
@@ -21,7 +21,7 @@ offset_bounds-bridges-i c =
 pub loop-i-preserved : goal.loop-i-preserved
 loop-i-preserved c =
     rw c.if_done-i.ensures
-    (reached-next _ _ _ c.first_number-first.ensures c.if_done-n.ensures _ _ _ c.loop-i.invariant c.loop-i-test.true _ _
+    (reached_next _ _ _ c.first_number-first.ensures c.if_done-n.ensures _ _ _ c.loop-i.invariant c.loop-i-test.true _ _
     (rw c.apart_before.ensures at c.admit-a.ensures.0) (rw c.apart_before.ensures at c.admit-a.ensures.1))
 
 pub returns : goal.returns

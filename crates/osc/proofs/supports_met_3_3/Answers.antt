@@ -1,5 +1,5 @@
-use Rattle.osc.proofs.Masks.{supports-33}
+use Rattle.osc.proofs.Masks.{supports_33}
 use Rattle.osc.proofs.supports_met_3_3.Goals as goal
 
 pub returns : goal.returns
-returns c = rw c.met.ensures (supports-33 c.args.declared)
+returns c = rw c.met.ensures (supports_33 c.args.declared)

@@ -1,5 +1,5 @@
 use Rattle.std.proofs.Common.{sym, ◌∙◌}
-use Rattle.records.proofs.Walking.{too_long, at-start, bad, twice, skipped, recorded}
+use Rattle.records.proofs.Walking.{too_long, at_start, bad, twice, skipped, recorded}
 use Rattle.records.proofs.search_block.Goals as goal
 use Rattle.records.proofs.search_block.Goals.{in-Skip, in-Record+else-has_record}
 
@@ -9,7 +9,7 @@ returns-then-too_long c =
 
 pub loop-at-init : goal.loop-at-init
 loop-at-init c =
-    rw c.refusal-found.ensures (at-start c.args.b.now c.args.record_type (sym c.if-too_long.ensures))
+    rw c.refusal-found.ensures (at_start c.args.b.now c.args.record_type (sym c.if-too_long.ensures))
 
 pub returns-then-has_record : goal.returns-then-has_record
 returns-then-has_record c =

@@ -5,16 +5,16 @@ use Rattle.rules.specs.Rom.{sound_images}
 use Rattle.rules.specs.declared.Image.{Image}
 use Rattle.rom.specs.Images.{image_read, chain_sound}
 use Rattle.rom.specs.declared.ImageRead.TheVariants.{Sound}
-use Rattle.rom.proofs.Walking.{Left, ended, sound, at_last, goes_on, chain, chain-from, same-chain}
+use Rattle.rom.proofs.Walking.{Left, ended, sound, at_last, goes_on, chain, chain_from, same_chain}
 use Rattle.rom.proofs.chain_sound.Goals as goal
 
 -- an image that was read is sound, so it adds nothing
 adds_nothing : (l : List ℕ) (from i : ℕ) → Left l (chain l) (chain_sound l from) i → (m : Image) → Sound m ≡ image_read l i
     → (o : Option (List Image)) → sound_images l (prepend m o) ≡ sound_images l o
-adds_nothing l from i w m e = same-chain l m (sound l (chain l) (chain_sound l from) i w m e)
+adds_nothing l from i w m e = same_chain l m (sound l (chain l) (chain_sound l from) i w m e)
 
 pub loop-at-init : goal.loop-at-init
-loop-at-init c = chain-from c.args.rom.now c.args.from c.requires
+loop-at-init c = chain_from c.args.rom.now c.args.from c.requires
 
 pub returns-in_default : goal.returns-in_default
 returns-in_default c = ended _ _ _ _ c.loop-at.invariant c.in_default.ensures

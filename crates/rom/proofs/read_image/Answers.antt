@@ -3,7 +3,7 @@ use Rattle.std.proofs.Common.{◌≡◌, ◌+◌, ◌*◌, ℕ, sym, ap, ◌∙�
 use borrow.Author.Tests.{eq-eqb}
 use Rattle.rules.specs.Numbers.{word}
 use Rattle.rules.specs.Rom.{structure_signature, structure_at, image_at}
-use Rattle.rom.proofs.Reading.{from-to, as_number, whole}
+use Rattle.rom.proofs.Reading.{from_to, as_number, whole}
 use Rattle.rom.proofs.read_image.Goals as goal
 
 pub returns : goal.returns
@@ -14,7 +14,7 @@ returns c =
     let long : 512 * c.read16-2.result ≡ (image_at l i).size = ap (λ (n : ℕ). 512 * n) (c.read16-2.ensures ∙ ap (λ (n : ℕ). word l (16 + n)) pointed) in
     whole l i _ pointed _ long
     (as_number l i (omega arith) (λ k. (c.type_inv.rom k).fits) ∙ eq-eqb (word l i) 0xAA55 (sym c.read16.ensures ∙ c.if-read16.false))
-    (from-to l structure_signature (c.read16-pointer.result + i) 4 _ c.if-not-same.ensures)
+    (from_to l structure_signature (c.read16-pointer.result + i) 4 _ c.if-not-same.ensures)
     (omega arith)
     (omega arith)
     c.if-size-eq0.false

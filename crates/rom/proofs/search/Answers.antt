@@ -3,8 +3,8 @@ use Rattle.rules.specs.Rom.{is_last, image_sound, find_image}
 use Rattle.rules.specs.declared.Image.{Image}
 use Rattle.rom.specs.Images.{image_read, chain_sound, chosen_if}
 use Rattle.rom.specs.declared.ImageRead.TheVariants.{Sound}
-use Rattle.rom.proofs.Reading.{image-fits}
-use Rattle.rom.proofs.Walking.{Left, ended, at-end, sound, at_last, goes_on, answer, too_large, at-start, no-match, none_found, is-chosen}
+use Rattle.rom.proofs.Reading.{image_fits}
+use Rattle.rom.proofs.Walking.{Left, ended, at_end, sound, at_last, goes_on, answer, too_large, at_start, no_match, none_found, is_chosen}
 use Rattle.rom.proofs.search.Goals as goal
 
 -- an image that was read is sound
@@ -20,7 +20,7 @@ returns-then-too_large c =
 pub loop-at-init : goal.loop-at-init
 loop-at-init c =
     let a = c.args in
-    at-start a.rom.now a.vendor a.device a.code_type (sym c.if-too_large.ensures)
+    at_start a.rom.now a.vendor a.device a.code_type (sym c.if-too_large.ensures)
 
 pub returns-in_default : goal.returns-in_default
 returns-in_default c = c.refusal-in_default.ensures ∙ ended _ _ _ _ c.loop-at.invariant c.in_default.ensures
@@ -31,8 +31,8 @@ returns-then-is_asked c =
     let l = a.rom.now in
     let m = c.in-Sound.m in
     c.chosen.ensures
-    ∙ ap (λ (n : ℕ). chosen_if (is_last l m || chain_sound l (m.size + n)) m) (image-fits l c.loop-at.at m c.in-Sound.ensures).3
-    ∙ is-chosen l a.vendor a.device a.code_type c.loop-at.at c.loop-at.invariant m c.in-Sound.ensures (sym c.if-is_asked.ensures)
+    ∙ ap (λ (n : ℕ). chosen_if (is_last l m || chain_sound l (m.size + n)) m) (image_fits l c.loop-at.at m c.in-Sound.ensures).3
+    ∙ is_chosen l a.vendor a.device a.code_type c.loop-at.at c.loop-at.invariant m c.in-Sound.ensures (sym c.if-is_asked.ensures)
 
 pub returns-then-is_last : goal.returns-then-is_last
 returns-then-is_last c =
@@ -51,13 +51,13 @@ loop-at-preserved c =
     let m = c.in-Sound.m in
     let s = is_sound l a.vendor a.device a.code_type c.loop-at.at c.loop-at.invariant m c.in-Sound.ensures in
     goes_on _ _ _ c.loop-at.at c.loop-at.invariant m c.in-Sound.ensures (sym c.if-is_last.ensures)
-    (no-match l a.vendor a.device a.code_type m s (sym c.if-is_asked.ensures))
+    (no_match l a.vendor a.device a.code_type m s (sym c.if-is_asked.ensures))
 
 pub returns : goal.returns
-returns c = c.refusal-2.ensures ∙ at-end _ _ _ _ c.loop-at.invariant (omega arith)
+returns c = c.refusal-2.ensures ∙ at_end _ _ _ _ c.loop-at.invariant (omega arith)
 
 pub overflow_add-at : goal.overflow_add-at
-overflow_add-at c = omega (arith, image-fits c.args.rom.now c.loop-at.at c.in-Sound.m c.in-Sound.ensures)
+overflow_add-at c = omega (arith, image_fits c.args.rom.now c.loop-at.at c.in-Sound.m c.in-Sound.ensures)
 
 pub loop-at-smaller : goal.loop-at-smaller
-loop-at-smaller c = omega (arith, image-fits c.args.rom.now c.loop-at.at c.in-Sound.m c.in-Sound.ensures)
+loop-at-smaller c = omega (arith, image_fits c.args.rom.now c.loop-at.at c.in-Sound.m c.in-Sound.ensures)

@@ -21,9 +21,9 @@ use Rattle.rules.specs.contracts.BridgeRow as R
 use Rattle.walks.proofs.Frame.{Blocks, envs, stack, those, enters, leaves}
 use Rattle.walks.proofs.Values.{Value, struct, array, word}
 use Rattle.walks.proofs.Contracts.{machine}
-use Rattle.walks.proofs.Params.{Param, value, shared-slice, inner, tys, all_typed}
+use Rattle.walks.proofs.Params.{Param, value, shared_slice, inner, tys, all_typed}
 use Rattle.walks.proofs.Calls.{then, invokes}
-use Rattle.walks.proofs.Shared.{on-shared}
+use Rattle.walks.proofs.Shared.{on_shared}
 use Rattle.rules.proofs.BridgeRow.TheLaws as R'
 use Rattle.rules.specs.contracts.Started as S
 use Rattle.rules.proofs.Started.TheLaws as S'
@@ -57,7 +57,7 @@ abbrev list : Value
 list = array row list_rows
 
 abbrev Ps : List (Param 1)
-Ps = shared-slice 0 tt u8 ∷ value list ∷ value word ∷ []
+Ps = shared_slice 0 tt u8 ∷ value list ∷ value word ∷ []
 
 abbrev rows-ty : Ty
 rows-ty = slice_ty (ty_ref erased imm (pointee (R.the_row).written))
@@ -71,7 +71,7 @@ unfolding max_rows
 front-room n k e l = (omega arith, omega arith)
 
 module _ {M : Type 1} {𝓤 : Ura M} (𝓛 : Logic 𝓤) (𝓜 : Model 𝓤 𝓛.H) (𝓡 : Running 𝓤 𝓛.H 𝓜) (κ : Lft) (q : Share) (m : Bor (List ℕ)) (xs : List BridgeRow) (count : ℕ)
-    (is_m : Is (ShrSlice (named 0) κ u8) m (shr_slice_vals m)) (is : Is list.row xs (list.val xs ∷ [])) (is-count : Is word.row count (word.val count ∷ [])) (Post : Val → SProp 𝓤)
+    (is_m : Is (ShrSlice (named 0) κ u8) m (shr_slice_vals m)) (is : Is list.row xs (list.val xs ∷ [])) (is_count : Is word.row count (word.val count ∷ [])) (Post : Val → SProp 𝓤)
     (ends : (s : Started) → Is answer.row s (answer.val s ∷ []) → Answer (record { mcfg = m.now; rows = take count xs }) s → Sq 𝓛 (‵ (flft κ q) ∷ []) (prop (Post (answer.val s)))) (ls : Blocks (answer.ty ∷ τs)) where
   open 𝓛 use {H}
 
@@ -95,15 +95,15 @@ module _ {M : Type 1} {𝓤 : Ura M} (𝓛 : Logic 𝓤) (𝓜 : Model 𝓤 𝓛
   walk =
       -- [the token; mcfg; _7; …; _0; …]
       move ! (16 ∷ 17 ∷ []) $ assigns ! (of_opd ! (load ! (from ! (stop !)) (look ! 12 refl))) (from ! (stop !)) (init ! 8 refl (list.typed 𝓛 xs is)) $
-      invokes 𝓛 𝓜 𝓡 code.env 0 (value word ∷ []) word (rows.clauses 𝓛) tt tt (count, tt) (λ n. n ≡ min count list_rows) _ (then _ _) ! rows-def.routine code.calls-start-array::rows-in-array (rows-thm.met 𝓤 𝓛 𝓜 𝓡) (is-count, tt) tt (id⊢ 𝓤 _) (λ n ws. id⊢ 𝓤 _)
-      (and_then ! (load ! (from ! (stop !)) (look ! 10 refl)) (no_more !)) (λ n is-n f.
-      land ! (from ! (stop !)) (init ! 6 refl (word.typed 𝓛 n is-n)) $ assigns ! (addr ! (from ! (stop !))) (from ! (stop !)) (init ! 4 refl (tt, tt)) $
-      assigns ! (agg ! (and_then ! (load ! (from ! (stop !)) (look ! 4 refl)) (and_then ! (load ! (from ! (stop !)) (look ! 6 refl)) (no_more !)))) (from ! (stop !)) (init ! 2 refl (tt, (tt, (record { fits = is-n.1 }, tt)))) $
+      invokes 𝓛 𝓜 𝓡 code.env 0 (value word ∷ []) word (rows.clauses 𝓛) tt tt (count, tt) (λ n. n ≡ min count list_rows) _ (then _ _) ! rows-def.routine code.calls-start-array::rows-in-array (rows-thm.met 𝓤 𝓛 𝓜 𝓡) (is_count, tt) tt (id⊢ 𝓤 _) (λ n ws. id⊢ 𝓤 _)
+      (and_then ! (load ! (from ! (stop !)) (look ! 10 refl)) (no_more !)) (λ n is_n f.
+      land ! (from ! (stop !)) (init ! 6 refl (word.typed 𝓛 n is_n)) $ assigns ! (addr ! (from ! (stop !))) (from ! (stop !)) (init ! 4 refl (tt, tt)) $
+      assigns ! (agg ! (and_then ! (load ! (from ! (stop !)) (look ! 4 refl)) (and_then ! (load ! (from ! (stop !)) (look ! 6 refl)) (no_more !)))) (from ! (stop !)) (init ! 2 refl (tt, (tt, (record { fits = is_n.1 }, tt)))) $
       rewrite ! 2 (λ (k : ℕ). ‵ (fat full_share rows-ty ls.1.1.1.1.1.1.1.0 0 (slice_val (l, 0) k))) (sym (front n f)) refl $
       move ! (8 ∷ []) $ lends_first row list_rows l n xs ! tt tt is (front-room n _ (front n f) (few n f)) (λ α γ.
       -- [the tokens; mcfg; the slice; what is lent; the rest; _7; …; _4's end; …; _0; …]
       move ! (4 ∷ 0 ∷ 5 ∷ 1 ∷ []) $
-      invokes 𝓛 𝓜 𝓡 code.env 2 (shared-slice 0 tt u8 ∷ shared-slice 1 tt R.the_row ∷ []) answer (start.clauses 𝓛) (κ, (α ∷ [], tt)) (q, (full_share, tt)) (m, (first row list_rows l n xs γ, tt)) (Answer (record { mcfg = m.now; rows = take n xs })) _ (then _ _) ! start-def.routine code.calls-slipwattle::slipwattle-start (start-thm.met 𝓤 𝓛 𝓜 𝓡) (is_m, (((refl, front-room n _ (front n f) (few n f)), (tt, tt)), tt)) tt (id⊢ 𝓤 _) (λ s ws. id⊢ 𝓤 _)
+      invokes 𝓛 𝓜 𝓡 code.env 2 (shared_slice 0 tt u8 ∷ shared_slice 1 tt R.the_row ∷ []) answer (start.clauses 𝓛) (κ, (α ∷ [], tt)) (q, (full_share, tt)) (m, (first row list_rows l n xs γ, tt)) (Answer (record { mcfg = m.now; rows = take n xs })) _ (then _ _) ! start-def.routine code.calls-slipwattle::slipwattle-start (start-thm.met 𝓤 𝓛 𝓜 𝓡) (is_m, (((refl, front-room n _ (front n f) (few n f)), (tt, tt)), tt)) tt (id⊢ 𝓤 _) (λ s ws. id⊢ 𝓤 _)
       (and_then ! (load ! (from ! (stop !)) (look ! 17 refl)) (and_then ! (load ! (from ! (stop !)) (look ! 6 refl)) (no_more !))) (λ s is-s e.
       land ! (from ! (stop !)) (init ! 19 refl (answer.typed 𝓛 s is-s)) $ move ! (1 ∷ 4 ∷ 5 ∷ []) $ first_back row list_rows l n xs ! tt is α $
       -- [_4; the token; mcfg; the slice; _7; …; _4's end; …; _0; …]
@@ -114,6 +114,6 @@ module _ {M : Type 1} {𝓤 : Ura M} (𝓛 : Logic 𝓤) (𝓜 : Model 𝓤 𝓛
 pub start-array-spec : {M : Type 1} → stated.statement M
 unfolding code.routine max_rows
 start-array-spec 𝓤 𝓛 𝓜 𝓡 =
-    on-shared 1 Ps answer 𝓛 𝓜 𝓡 (own.clauses 𝓛 𝓜.mem 𝓡.run) (refl, (refl, (refl, tt))) code.env key.name code.function (code.unfolded 𝓤 𝓛.H 𝓜 𝓡) (λ κs qs (m, (xs, (count, _))) g (is_m, (is, (is-count, _))) ends.
-    keep ! (0 ∷ 1 ∷ []) $ enters 𝓛 _ _ code.function _ _ answer.ty τs refl (all_typed (inner 1) κs 𝓛 Ps (m, (xs, (count, tt))) (is_m, (is, (is-count, tt))))
-    (walk 𝓛 𝓜 𝓡 κs.0 qs.0 m xs count is_m is is-count _ (λ s is-s e. ends s is-s (λ ws. fact_i 𝓤 _ (emp 𝓤) e))))
+    on_shared 1 Ps answer 𝓛 𝓜 𝓡 (own.clauses 𝓛 𝓜.mem 𝓡.run) (refl, (refl, (refl, tt))) code.env key.name code.function (code.unfolded 𝓤 𝓛.H 𝓜 𝓡) (λ κs qs (m, (xs, (count, _))) g (is_m, (is, (is_count, _))) ends.
+    keep ! (0 ∷ 1 ∷ []) $ enters 𝓛 _ _ code.function _ _ answer.ty τs refl (all_typed (inner 1) κs 𝓛 Ps (m, (xs, (count, tt))) (is_m, (is, (is_count, tt))))
+    (walk 𝓛 𝓜 𝓡 κs.0 qs.0 m xs count is_m is is_count _ (λ s is-s e. ends s is-s (λ ws. fact_i 𝓤 _ (emp 𝓤) e))))

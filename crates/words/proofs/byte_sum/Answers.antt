@@ -1,12 +1,12 @@
 use Rattle.std.proofs.Common.{◌≡◌, ℕ, ◌+◌, ◌-◌, ◌%◌, List, length, take, drop, ap, arith, length-drop, take_all, refl}
 use Rattle.rules.specs.Numbers.{sum}
-use Rattle.words.proofs.Sums.{sum-split}
+use Rattle.words.proofs.Sums.{sum_split}
 use Rattle.words.proofs.byte_sum.Goals as goal
 
 -- the sums of the first n bytes and of the others, added
 parts : (b : List ℕ) (n first last r : ℕ) → first ≡ sum (take n b) % 256 → last ≡ sum (take (length b - n) (drop n b)) % 256
     → r ≡ (first + last) % 256 → r ≡ sum b % 256
-parts b n first last r e f g = omega (arith, sum-split b n, ap sum to_the_end)
+parts b n first last r e f g = omega (arith, sum_split b n, ap sum to_the_end)
   where
     to_the_end : take (length b - n) (drop n b) ≡ drop n b
     to_the_end = take_all (length b - n) (drop n b) (omega (arith, length-drop n b))

@@ -1,12 +1,12 @@
 use Rattle.std.proofs.Common.{◌≡◌, ℕ, ◌+◌, ◌-◌, ◌%◌, ◌≤◌, List, length, take, drop, subst, arith}
 use Rattle.rules.specs.Numbers.{sum}
-use Rattle.words.proofs.Sums.{sum-next, sum_past}
+use Rattle.words.proofs.Sums.{sum_next, sum_past}
 use Rattle.words.proofs.sum_of_eights.Goals as goal
 
 -- what a step adds is what is then no longer left
 step : (b : List ℕ) (i s r t : ℕ) → r % 256 ≡ (s + sum (take (8 + i - i) (drop i b))) % 256 → (s + sum (drop i b)) % 256 ≡ t % 256
     → (r + sum (drop (i + 8) b)) % 256 ≡ t % 256
-step b i s r t e f = omega (arith, subst (λ (n : ℕ). r % 256 ≡ (s + sum (take n (drop i b))) % 256) eight e, sum-next b i 8)
+step b i s r t e f = omega (arith, subst (λ (n : ℕ). r % 256 ≡ (s + sum (take n (drop i b))) % 256) eight e, sum_next b i 8)
   where
     eight : 8 + i - i ≡ 8
     eight = omega arith
