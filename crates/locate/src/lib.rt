@@ -31,6 +31,7 @@ pub fn begin() -> Search
 }
 
 // One bridge looked at: the search ends at a bridge of the session whose window has the address.
+#[tactic(auto, unfolding(rules::specs::Limits::max_rows))]
 pub fn seek(p: Search, bridges: usize, bridge: Bridge, s: SessionNumber, address: u64) -> Search
     requires { (p.next < bridges) × (bridges ≤ max_rows) }
     ensures { result ≡ after_bridge p bridges bridge s address }

@@ -2,15 +2,31 @@
 use Prim.Native.Nat.{ℕ, zero, suc, ◌+◌, ◌-◌, ◌*◌, ◌≤◌}
 use mathlib.Core.Path.{◌≡◌, refl, sym, ap, ◌∙◌}
 use mathlib.Core.Bool.{Bool, true, false, cond, not}
-use mathlib.Core.List.{List, ◌++◌}
+use mathlib.Core.List.{List, [], ◌++◌}
 use native.Mathlib.Omega.{arith}
-use lib.ListN.{length, take, drop, replicate, length-append, length-replicate}
+use borrow.Author.Tests.{eq-eqb}
+use lib.Bits.{bit_and, bit_or, and_self}
+use lib.ListN.{length, take, drop, replicate, drop_of_length-le, length-append, length-drop, length-replicate}
 use lib.Seq.{take_all, take_at, take-add, length-take-le}
-use Rattle.rules.specs.Numbers.{le32}
+use Rattle.rules.specs.Numbers.{le32, within}
 use Rattle.rules.specs.Tables.{holding}
-use Rattle.rules.specs.Osc.{recognised, error_status, query, osc_answer, joined, osc_after}
+use Rattle.rules.specs.Editions.{known_support}
+use Rattle.rules.specs.Osc.{granted, grant_status, recognised, error_status, query, support, control, osc_answer, joined, osc_after}
 use Rattle.rules.specs.declared.Bridge.{Bridge}
+use Rattle.rules.proofs.Tests.{fails}
+use Rattle.rules.proofs.Sets.{same_sub, within_sub}
 use Rattle.osc.specs.Granted.{granted_answer}
+
+-- three DWORDs written one after the other fill twelve bytes
+pub three_written_lem : (b : List ℕ) (x y z : ℕ) (b₁ b₂ b₃ : List ℕ) → length b ≡ 12
+    → b₁ ≡ take 0 b ++ le32 x ++ drop 4 b
+    → b₂ ≡ take 4 b₁ ++ le32 y ++ drop 8 b₁
+    → b₃ ≡ take 8 b₂ ++ le32 z ++ drop 12 b₂
+    → b₃ ≡ le32 x ++ le32 y ++ le32 z
+three_written_lem b x y z b₁ b₂ b₃ h e₁ e₂ e₃ = rw (e₃, e₂, e₁, rest)
+  where
+    rest : drop 4 (drop 4 (drop 4 b)) ≡ []
+    rest = drop_of_length-le (drop 4 (drop 4 b)) {i = 4} (simp length-drop (omega arith))
 
 -- zeros without the first k of them
 drop_zeros : (k n : ℕ) → drop {A = ℕ} k (replicate n 0) ≡ replicate (n - k) 0
@@ -66,6 +82,27 @@ more_right a x n at a₁ f h l e i =
     back =
         take-add at 4 (error_bytes x n)
         ∙ ap (λ (y : List ℕ). take at (error_bytes x n) ++ y) (ap (take 4) (zeros_left x n at f) ∙ zero_dword (n - 4 - (at - 4)) (omega arith))
+
+-- the status of a set that was requested: as large as the request, or not
+pub all_granted : (r g : ℕ) → g ≡ r → 0 ≡ grant_status r g
+all_granted r g e = rw (e, and_self r, eq-eqb r r refl)
+
+pub some_masked : (r g : ℕ) → within g r ≡ true → (g ≡ r → ⊥) → 0x10 ≡ grant_status r g
+some_masked r g w n = rw (fails (within r g) (λ e. n (same_sub g r (within_sub g r w) (within_sub r g e))))
+
+-- what was read, found and written is the answer
+pub granted_written : (b : Bridge) (caps : List ℕ) (s r g st : ℕ) → s ≡ support caps → r ≡ control caps → g ≡ granted b s r → st ≡ grant_status r g
+    → le32 st ++ le32 s ++ le32 g ≡ granted_answer b caps
+granted_written b caps s r g st p w q t = rw (t, q, p, w)
+
+-- the query flag decides what is added
+module _ (b : Bridge) (caps : List ℕ) (q : Bool) (e : q ≡ query caps) where
+  pub query_adds : q ≡ true → holding b ≡ cond (query caps) (holding b) (joined b caps)
+  query_adds t = rw (sym e, t)
+
+  pub taking_adds : (g s k : ℕ) → q ≡ false → g ≡ granted b (support caps) (control caps) → s ≡ support caps → k ≡ known_support b.edition
+      → record { held = bit_or b.held g; supported = bit_or b.supported (bit_and s k) } ≡ cond (query caps) (holding b) (joined b caps)
+  taking_adds g s k t p w z = rw (sym e, t, p, w, z)
 
 module _ (b : Bridge) (revision count : ℕ) (uuid caps : List ℕ) where
   -- an error: its status, zeros, and nothing added

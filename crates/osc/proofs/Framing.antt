@@ -1,19 +1,19 @@
 -- What a framed call has, and what the error status says.
-use Prim.Native.Nat.{ℕ, ◌*◌, ◌%◌, ◌≤◌}
+use Prim.Native.Nat.{ℕ, ◌*◌, ◌%◌, ◌≤◌, ◌<◌}
 use mathlib.Core.Path.{◌≡◌, refl, sym, ◌∙◌}
-use mathlib.Core.Bool.{Bool, true, false, cond, not, ◌&&◌}
+use mathlib.Core.Bool.{Bool, true, false, cond, not, ◌&&◌, ◌||◌}
 use mathlib.Core.List.{List}
 use native.Mathlib.Omega.{arith}
 use lib.Dec.{eqb, ltb}
 use lib.ListN.{length}
-use borrow.Author.Tests.{eqb-true, eqb-false, ltb-false, not-false}
+use borrow.Author.Tests.{eqb-true, eqb-false, ltb-false, eq-eqb, ne_eqb, lt-ltb, le-ltb, not-false}
 use Rattle.rules.specs.Numbers.{same_bytes}
 use Rattle.rules.specs.Osc.{uuid_bytes, framing_bad, recognised, error_status}
 use Rattle.rules.proofs.Tests.{or_false, and-true}
 
 -- a call that refusal 3 does not meet
 pub record Framed (count : ℕ) (uuid caps answer : List ℕ) : Type 0 where
-  pub some_dwords : (count ≡ 0 → ⊥)
+  pub some_dwords_lem : (count ≡ 0 → ⊥)
   pub at_most_8 : count ≤ 8
   pub capabilities_long : length caps ≡ 4 * count
   pub answer_long : length answer ≡ 4 * count
@@ -26,11 +26,31 @@ framed count uuid caps answer e =
     let h = or_false _ (ltb 8 count) c.0 in
     let z = or_false (not (eqb (length uuid) 16)) (eqb count 0) h.0 in
     record {
-      some_dwords = eqb-false count 0 z.1;
+      some_dwords_lem = eqb-false count 0 z.1;
       at_most_8 = ltb-false 8 count h.1;
       capabilities_long = eqb-true (length caps) (4 * count) (not-false (eqb (length caps) (4 * count)) c.1);
       answer_long = eqb-true (length answer) (4 * count) (not-false (eqb (length answer) (4 * count)) a.1);
     }
+
+-- refusal 3, test by test
+module _ (count : ℕ) (uuid caps answer : List ℕ) where
+  pub uuid_length : (length uuid ≡ 16 → ⊥) → true ≡ framing_bad count uuid caps answer
+  unfolding framing_bad
+  uuid_length n = rw (ne_eqb (length uuid) 16 n)
+
+  module _ (u : length uuid ≡ 16) where
+    pub count_zero : count ≡ 0 → true ≡ framing_bad count uuid caps answer
+    unfolding framing_bad
+    count_zero z = rw (eq-eqb (length uuid) 16 u, eq-eqb count 0 z)
+
+    module _ (n : count ≡ 0 → ⊥) where
+      pub count_above : 8 < count → true ≡ framing_bad count uuid caps answer
+      unfolding framing_bad
+      count_above h = rw (eq-eqb (length uuid) 16 u, ne_eqb count 0 n, lt-ltb 8 count h)
+
+      pub lengths_left : count ≤ 8 → not (eqb (length caps) (4 * count)) || not (eqb (length answer) (4 * count)) ≡ framing_bad count uuid caps answer
+      unfolding framing_bad
+      lengths_left h = rw (eq-eqb (length uuid) 16 u, ne_eqb count 0 n, le-ltb 8 count h)
 
 -- an error status is never 0
 error_not_zero : (revision : ℕ) (uuid : List ℕ) → error_status revision uuid ≡ 0 → ⊥
@@ -74,7 +94,7 @@ pub some_to_8 : (count : ℕ) (uuid caps answer : List ℕ) → framing_bad coun
     → (4 ≤ length answer) × (length answer ≤ 32) × (length answer % 4 ≡ 0)
 some_to_8 count uuid caps answer f =
     let h = framed count uuid caps answer f in
-    go count h.some_dwords h.at_most_8 h.answer_long
+    go count h.some_dwords_lem h.at_most_8 h.answer_long
   where
     go : (count : ℕ) → (count ≡ 0 → ⊥) → count ≤ 8 → length answer ≡ 4 * count → (4 ≤ length answer) × (length answer ≤ 32) × (length answer % 4 ≡ 0)
     go count n m e = (omega (arith, e, positive count n), omega (arith, e), omega (arith, e))

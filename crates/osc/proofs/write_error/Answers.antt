@@ -13,12 +13,12 @@ loop-at-preserved c =
       | then-at-answer w ↦ (
         omega arith,
         omega arith,
-        rw w.answer_is
+        rw w.answer-is
             (more_right l.answer c.args.status n l.at _ v.0 (omega arith) (omega arith) w.write32-then-at-answer.ensures v.2),
       )
       | else-at-answer w ↦ (
         omega arith,
         omega arith,
-        rw w.answer_is (ap (take (l.at + 4)) (all_right l.answer c.args.status n l.at (omega arith) (omega arith) (omega arith) v.2)),
+        rw w.answer-is (ap (take (l.at + 4)) (all_right l.answer c.args.status n l.at (omega arith) (omega arith) (omega arith) v.2)),
       )
     ]
