@@ -11,7 +11,7 @@ use Prim.Native.Nat.{ℕ, suc, ◌*◌, ◌+◌, ◌<◌}
 use mathlib.Core.List.{[], ◌∷◌, List}
 use lib.Dec.{eqb}
 use lib.Ieee.Bits.{is_true, is_false}
-use Rattle.walks.proofs.Kit.{Ura, full_share, Ty, w8, w64, ty_bool, ty_ptr, unsigned, mul, offset as shift, eq, Code, place, copy, int, deref, field, rv_opd, op2, addr_of, assign, call, skip, seq, cond, vint, vbool, vptr, id⊢, GName, Lft, Share, fat, froom, Memory, Routine, Env, Calls, Loops, Wp, after_seq, Fun, FmC, Go, Item, Sq, Post, post, any_q, runs, ‵, ◌$◌, !, move, rewrite, Opds, look, look_raw, init, forget, stop, hop, fld, load, lit, of_opd, bin, addr, assigns, assigns_last, land, first, skips, exec, branches, whole, sub, look_in, store_in, SProp, Is, mem, Triple}
+use Rattle.walks.proofs.Kit.{Ura, full_share, Ty, w8, w64, ty_bool, ty_int, ty_ptr, w32, unsigned, mul, offset as shift, eq, Code, place, copy, int, deref, field, rv_opd, op2, addr_of, assign, call, skip, seq, cond, vint, vbool, vptr, id⊢, GName, Lft, Share, fat, froom, Memory, Routine, Env, Calls, Loops, Wp, after_seq, Fun, FmC, Go, Item, Sq, Post, post, any_q, runs, ‵, ◌$◌, !, move, rewrite, Opds, look, look_raw, init, forget, stop, hop, fld, load, lit, of_opd, bin, addr, assigns, assigns_last, land, first, skips, exec, branches, whole, sub, look_in, store_in, SProp, Is, mem, Triple}
 use types.Logic.{Logic}
 use types.Mut.{open_ref, close_ref}
 use denote.Struct.Laws as LL
@@ -42,12 +42,15 @@ use Rattle.lent.proofs.Ways.{bridge, bridge_number, ref_ty, size, offset, bridge
 abbrev pub bridge_done : Value
 bridge_done = struct D.the_type D'.the_laws D'.the_plain
 
--- the locals that the bridge is read through: a word for the count, the bridge, and the word and the pointers by which it is reached; and those of the stores: the test, and the word and the pointers of each
+-- the locals that the bridge is read through: a word for the count, the bridge, and the word and the pointers by which it is reached; and those of the stores: the test, the word, and of each the bits and the pointers
 abbrev pub read_tys : List Ty
 read_tys = word.ty ∷ word.ty ∷ ty_ptr ∷ ty_ptr ∷ bridge.ty ∷ []
 
+abbrev bits-ty : Ty
+bits-ty = ty_int w32
+
 abbrev pub store_tys : List Ty
-store_tys = ty_bool ∷ word.ty ∷ ty_ptr ∷ ty_ptr ∷ ty_ptr ∷ ty_ptr ∷ []
+store_tys = ty_bool ∷ bits-ty ∷ word.ty ∷ ty_ptr ∷ ty_ptr ∷ bits-ty ∷ ty_ptr ∷ ty_ptr ∷ []
 
 -- where the bridge lies, in the local behind p, where local i has its index
 abbrev pointing : (i w p : ℕ) → Code → Code
@@ -63,13 +66,18 @@ copying i w rest =
     (seq (assign (place w []) (rv_opd (copy (place 1 (deref T'.mir ∷ field 1 ∷ [])))))
     (pointing i (suc w) (suc (suc w)) (seq (assign (place (suc (suc (suc (suc w)))) []) (rv_opd (copy (place (suc (suc (suc w))) (deref B'.mir ∷ []))))) rest)))
 
--- field f of the bridge stored, where what came back stands in local d: its field 1 is a bridge
-abbrev putting : (p f d : ℕ) → Code
-putting p f d = assign (place p (deref B'.mir ∷ field f ∷ [])) (rv_opd (copy (place d (field 1 ∷ field f ∷ []))))
+-- field f of what came back, which stands in local d and whose field 1 is a bridge, put into local v; and that stored in the bridge's field f
+abbrev taking : (v f d : ℕ) → Code
+taking v f d = assign (place v []) (rv_opd (copy (place d (field 1 ∷ field f ∷ []))))
+
+abbrev putting : (p f v : ℕ) → Code
+putting p f v = assign (place p (deref B'.mir ∷ field f ∷ [])) (rv_opd (copy (place v [])))
 
 -- fields 2 and 3, the held and the supported bits
 abbrev both_put : (i d c : ℕ) → Code
-both_put i d c = pointing i (suc c) (suc (suc c)) (seq (putting (suc (suc (suc c))) 2 d) (pointing i (suc c) (suc (suc (suc (suc c)))) (putting (suc (suc (suc (suc (suc c))))) 3 d)))
+both_put i d c =
+    seq (taking (suc c) 2 d) (pointing i (suc (suc c)) (suc (suc (suc c))) (seq (putting (suc (suc (suc (suc c)))) 2 (suc c))
+    (seq (taking (suc (suc (suc (suc (suc c))))) 3 d) (pointing i (suc (suc c)) (suc (suc (suc (suc (suc (suc c)))))) (putting (suc (suc (suc (suc (suc (suc (suc c))))))) 3 (suc (suc (suc (suc (suc c))))))))))
 
 -- after the call: where its number, field 0 of what came back, is 0
 abbrev pub storing : (i d c : ℕ) → Code → Code
@@ -139,8 +147,8 @@ module _ {M : Type 1} {𝓤 : Ura M} (𝓛 : Logic 𝓤) (C : Calls 𝓤 𝓛.H)
       -- the locals, with the test's, where the reference leads to t
       abbrev touched : Item 𝓤 → Table → List (Item 𝓤) → List (Item 𝓤)
       touched test t' Γ =
-          Both (index n) (‵ (froom word.ty xs.1.0 0) ∷ ‵ (froom ty_ptr xs.1.1.0 0) ∷ ‵ (froom ty_ptr xs.1.1.1.0 0) ∷ ‵ (froom ty_ptr xs.1.1.1.1.0 0) ∷ ‵ (froom ty_ptr xs.1.1.1.1.1.0 0)
-          ∷ ‵ (fat full_share bridge_done.ty l 0 (bridge_done.val x)) ∷ test ∷ Lent 𝓤 T.the_row κ q b o γ t' Γ)
+          Both (index n) (‵ (froom word.ty xs.1.1.0 0) ∷ ‵ (froom ty_ptr xs.1.1.1.0 0) ∷ ‵ (froom ty_ptr xs.1.1.1.1.0 0) ∷ ‵ (froom ty_ptr xs.1.1.1.1.1.1.0 0) ∷ ‵ (froom ty_ptr xs.1.1.1.1.1.1.1.0 0)
+          ∷ ‵ (fat full_share bridge_done.ty l 0 (bridge_done.val x)) ∷ test ∷ ‵ (froom bits-ty xs.1.0 0) ∷ ‵ (froom bits-ty xs.1.1.1.1.1.0 0) ∷ Lent 𝓤 T.the_row κ q b o γ t' Γ)
 
       abbrev pub with_room : Table → List (Item 𝓤) → List (Item 𝓤)
       with_room = touched (‵ (froom ty_bool xs.0 0))
@@ -152,15 +160,17 @@ module _ {M : Type 1} {𝓤 : Ura M} (𝓛 : Logic 𝓤) (C : Calls 𝓤 𝓛.H)
           → Sq 𝓛 (tested Γ) (runs C Λ E (both_put i d c) (any_q (after_seq 𝓤 H (Wp 𝓤 H C Λ E rest (post 𝓤 H Q)) (post 𝓤 H Q))))
       stores is_y {Γ} {rest} go =
           let bits = LL.owed B.the_type B'.the_laws x.bridge _ is_y in let way = bridge_put 𝓛 h b o (index n) (index_in n) new in
-          -- the held bits: [the bridge; the way back; the open borrow; …; …; the reference; i; w; p; p'; q; q'; what came back; the test]
-          pointed _ (index_in n) (suc c) (suc (suc c)) _ _ _ at.1.0 at.1.1.0 at.1.1.1.0 (move ! (9 ∷ 10 ∷ 11 ∷ []) $ open_ref ! tt (mem T.the_row) $ take ! bridge way (λ is-r.
-          assigns ! (of_opd ! (load ! (finds 𝓛 at_d (fld ! refl (fld ! refl (stop !)))) (look_in ! 12 (sub ! 2 refl (sub ! 1 refl (whole !)))))) (finds 𝓛 at.1.1.1.0 (hop ! (look ! 9 refl) (fld ! refl (stop !)))) (store_in ! 0 (sub ! 2 refl (whole !)) (tt, record { fits = bits.1.1.0.1 })) $
-          -- the supported bits: [the reference; i; w; q; q'; the bridge; the way back; the open borrow; …; …; p; p'; what came back; the test]
-          forget ! 7 refl $ move ! (5 ∷ 6 ∷ 7 ∷ 10 ∷ 11 ∷ []) $ pointed _ (index_in n) (suc c) (suc (suc (suc (suc c)))) _ _ _ at.1.0 at.1.1.1.1.0 at.1.1.1.1.1.0 (
-          assigns_last ! (of_opd ! (load ! (finds 𝓛 at_d (fld ! refl (fld ! refl (stop !)))) (look_in ! 12 (sub ! 3 refl (sub ! 1 refl (whole !)))))) (finds 𝓛 at.1.1.1.1.1.0 (hop ! (look ! 4 refl) (fld ! {d = 16} refl (stop !)))) (store_in ! 5 (sub ! 3 {d = 16} refl (whole !)) (tt, record { fits = bits.1.1.1.0.1 })) $
+          -- the held bits: [the reference; i; w; p; p'; q; q'; what came back; the test; v; v'; the borrow], then [the bridge; the way back; the open borrow; …; …; the reference; i; w; p; p'; q; q'; what came back; the test; v; v']
+          assigns ! (of_opd ! (load ! (finds 𝓛 at_d (fld ! refl (fld ! refl (stop !)))) (look_in ! 7 (sub ! 2 refl (sub ! 1 refl (whole !)))))) (finds 𝓛 at.1.0 (stop !)) (init ! 9 refl (tt, record { fits = bits.1.1.0.1 })) $
+          pointed _ (index_in n) (suc (suc c)) (suc (suc (suc c))) _ _ _ at.1.1.0 at.1.1.1.0 at.1.1.1.1.0 (move ! (11 ∷ 12 ∷ 13 ∷ []) $ open_ref ! tt (mem T.the_row) $ take ! bridge way (λ is-r.
+          assigns ! (of_opd ! (load ! (finds 𝓛 at.1.0 (stop !)) (look ! 14 refl))) (finds 𝓛 at.1.1.1.1.0 (hop ! (look ! 9 refl) (fld ! refl (stop !)))) (store_in ! 0 (sub ! 2 refl (whole !)) (tt, record { fits = bits.1.1.0.1 })) $
+          -- the supported bits: [the reference; i; w; q; q'; the bridge; the way back; the open borrow; …; …; p; p'; what came back; the test; v; v']
+          assigns ! (of_opd ! (load ! (finds 𝓛 at_d (fld ! refl (fld ! refl (stop !)))) (look_in ! 12 (sub ! 3 refl (sub ! 1 refl (whole !)))))) (finds 𝓛 at.1.1.1.1.1.0 (stop !)) (init ! 15 refl (tt, record { fits = bits.1.1.1.0.1 })) $
+          forget ! 7 refl $ move ! (5 ∷ 6 ∷ 7 ∷ 10 ∷ 11 ∷ []) $ pointed _ (index_in n) (suc (suc c)) (suc (suc (suc (suc (suc (suc c)))))) _ _ _ at.1.1.0 at.1.1.1.1.1.1.0 at.1.1.1.1.1.1.1.0 (
+          assigns_last ! (of_opd ! (load ! (finds 𝓛 at.1.1.1.1.1.0 (stop !)) (look ! 15 refl))) (finds 𝓛 at.1.1.1.1.1.1.1.0 (hop ! (look ! 4 refl) (fld ! {d = 16} refl (stop !)))) (store_in ! 5 (sub ! 3 {d = 16} refl (whole !)) (tt, record { fits = bits.1.1.1.0.1 })) $
           exec ! C Λ E rest Q $ move ! (5 ∷ 6 ∷ []) $ put ! bridge way (holds_is this x.bridge is-r is_y) $ move ! (0 ∷ 6 ∷ 7 ∷ 8 ∷ []) $ close_ref ! tt (mem T.the_row) (with_bridge h (index n) new) {b = b} {o = o} $
-          -- [the borrow; the reference; i; w; q; q'; p; p'; what came back; the test]
-          forget ! 5 refl $ forget ! 6 refl $ forget ! 7 refl $ forget ! 8 refl $ forget ! 9 refl $ forget ! 11 refl $ move ! (3 ∷ 4 ∷ 5 ∷ 8 ∷ 9 ∷ 6 ∷ 7 ∷ 10 ∷ 11 ∷ []) $ go)))
+          -- [the borrow; the reference; i; w; q; q'; p; p'; what came back; the test; v; v']
+          forget ! 5 refl $ forget ! 6 refl $ forget ! 7 refl $ forget ! 8 refl $ forget ! 9 refl $ forget ! 11 refl $ forget ! 12 refl $ forget ! 13 refl $ move ! (3 ∷ 4 ∷ 5 ∷ 8 ∷ 9 ∷ 6 ∷ 7 ∷ 10 ∷ 11 ∷ 12 ∷ 13 ∷ []) $ go)))
 
       pub bridge_stored : Is B.the_row x.bridge (bridge.val x.bridge ∷ []) → {Γ : List (Item 𝓤)} {rest : Code} → Sq 𝓛 (with_room (stored h n x.number x.bridge) Γ) (runs C Λ E rest Q) → Sq 𝓛 (with_room h Γ) (runs C Λ E (storing i d c rest) Q)
       bridge_stored is_y {Γ} {rest} go =

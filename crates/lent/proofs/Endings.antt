@@ -59,13 +59,13 @@ kept_code i d c = storing i d c (seq (assign (place 0 []) (rv_opd (copy (place d
 pub kept_ends : Ends bridge_done (number w8) (λ x. x.number) (λ h n x. stored h n x.number x.bridge) (bridge_done.ty ∷ []) store_tys (λ d. d) kept_code
 kept_ends M 𝓤 𝓛 C Λ κ q b o γ h n Post E' l t m i d c ms xs at_i at_d at_c x is Γ go =
     let E : Env 𝓤 𝓛.H = ((number w8).ty, l) ∷ (ref_ty, t) ∷ E' in let owed = LL.owed D.the_type D'.the_laws x _ is in
-    -- [q'; …; q; …; p'; …; p; …; w; …; the test; …; what came back; …; the result; the reference; i; the borrow]
+    -- [q'; …; q; …; v'; …; p'; …; p; …; w; …; v; …; the test; …; what came back; …; the result; the reference; i; the borrow]
     move ! (3 ∷ []) $ step (spread 𝓛 (bridge_done.ty ∷ []) ms []) $ land ! (finds 𝓛 at_d.0 (stop !)) (init ! 0 refl (bridge_done.typed 𝓛 x is)) $ move ! (5 ∷ []) $ step (spread 𝓛 store_tys xs []) $
-    move ! (15 ∷ 16 ∷ 8 ∷ 6 ∷ 4 ∷ 2 ∷ 0 ∷ 12 ∷ 10 ∷ 17 ∷ 18 ∷ 19 ∷ []) $ step (bridge_stored 𝓛 C Λ E b o i t m refl at_i (at_ret E Post) κ q γ h n d c ms.0 xs at_d.0 at_c x owed.1.0) $
-    -- [the reference; i; w; p; p'; q; q'; what came back; the test; the borrow; q''s end; …; what came back's; the result]
-    assigns ! (of_opd ! (load ! (finds 𝓛 at_d.0 (fld ! refl (stop !))) (look_in ! 7 (sub ! 0 refl (whole !))))) (from ! (stop !)) (init ! 19 refl (tt, record { fits = owed.0.1 })) $
-    returns ! (look ! 19 refl) $ forget ! 19 refl $ forget ! 7 refl $
-    move ! (6 ∷ 12 ∷ 5 ∷ 13 ∷ 4 ∷ 14 ∷ 3 ∷ 15 ∷ 2 ∷ 16 ∷ 8 ∷ 17 ∷ 7 ∷ 18 ∷ []) $ step (pack 𝓛 store_tys xs []) $ move ! (1 ∷ 2 ∷ []) $ step (pack 𝓛 (bridge_done.ty ∷ []) ms []) $ move ! (7 ∷ 2 ∷ 3 ∷ []) $ go owed.0
+    move ! (19 ∷ 20 ∷ 10 ∷ 8 ∷ 6 ∷ 2 ∷ 0 ∷ 16 ∷ 14 ∷ 12 ∷ 4 ∷ 21 ∷ 22 ∷ 23 ∷ []) $ step (bridge_stored 𝓛 C Λ E b o i t m refl at_i (at_ret E Post) κ q γ h n d c ms.0 xs at_d.0 at_c x owed.1.0) $
+    -- [the reference; i; w; p; p'; q; q'; what came back; the test; v; v'; the borrow; q''s end; …; what came back's; the result]
+    assigns ! (of_opd ! (load ! (finds 𝓛 at_d.0 (fld ! refl (stop !))) (look_in ! 7 (sub ! 0 refl (whole !))))) (from ! (stop !)) (init ! 23 refl (tt, record { fits = owed.0.1 })) $
+    returns ! (look ! 23 refl) $ forget ! 23 refl $ forget ! 7 refl $
+    move ! (6 ∷ 14 ∷ 5 ∷ 15 ∷ 10 ∷ 16 ∷ 4 ∷ 17 ∷ 3 ∷ 18 ∷ 2 ∷ 19 ∷ 9 ∷ 20 ∷ 8 ∷ 21 ∷ 7 ∷ 22 ∷ []) $ step (pack 𝓛 store_tys xs []) $ move ! (1 ∷ 2 ∷ []) $ step (pack 𝓛 (bridge_done.ty ∷ []) ms []) $ move ! (7 ∷ 2 ∷ 3 ∷ []) $ go owed.0
 
 abbrev pub kept : Ending
 kept = record { given = bridge_done; result = number w8; answer = λ x. x.number; after = λ h n x. stored h n x.number x.bridge; mids = bridge_done.ty ∷ []; lasts = store_tys; to = λ d. d; code = kept_code; ends = kept_ends }

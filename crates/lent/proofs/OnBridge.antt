@@ -3,15 +3,16 @@
 --     mir_locals, mir_body     the function's MIR. Of a function that is known, that it has these is `refl`
 --     Sounds, Asks, Says       that the function requires a sound table, that the bridge's call may then be called, and that from what this ensures follows what the function does
 --     on_bridge_lem                   the function meets its contract, where the bridge's call meets its own and the one follows from the other
--- Assumes nothing: the walk takes `Logic`, which `on_bridge_lem` has of the machine.
+-- The lemmas take `Logic`, as every statement about a function does. `one_bridge::index` is taken as the program has it.
 use types.Logic.{Logic, sem}
-use denote.Ref.{Bor}
+use denote.MutBor.{MutBor}
 use mathlib.Core.Path.{◌≡◌, refl, subst}
 use Prim.Native.Nat.{ℕ, suc}
 use mathlib.Core.List.{[], ◌∷◌, List, map}
 use mathlib.Core.Option.{some}
-use Rattle.walks.proofs.Kit.{Ura, Ty, Name, Local, Code, place, copy, call, seq, Fn, Val, vptr, SProp, ent, sep, emp, Fml, Memory, Model, Routine, Routines, Env, Tables, Entry, sem, Fun, fact, Lfts, Shares, toks, Running, tables, Sq, allocs, params', runs, at_ret, lands, ‵, raw, ⋆, ◌$◌, ◌∵◌, !, qed, by, move, drop, rewrite, use0, use1, use2, join, fsplit, fjoin, frame, done, look, init, forget, stop, load, and_then, no_more, alloc1, alloc0, params1, pass1, free1, free0, fm_of, Is, RefT, yes, plain, owned, calls_from, Ended, Clauses, at_exit, all, lasts_of, Triple}
+use Rattle.walks.proofs.Kit.{Ura, Ty, Callee, Local, Code, place, copy, call, seq, Fn, Val, vptr, SProp, ent, sep, emp, Fml, Memory, Model, Routine, Routines, Env, Tables, Entry, sem, Fun, fact, Lfts, Shares, toks, Running, tables, Sq, allocs, params', runs, at_ret, lands, ‵, raw, ⋆, ◌$◌, ◌∵◌, !, qed, by, move, drop, rewrite, use0, use1, use2, join, fsplit, fjoin, frame, done, look, init, forget, stop, load, and_then, no_more, alloc1, alloc0, params1, pass1, free1, free0, fm_of, Is, yes, plain, owned, calls_from, Ended, Clauses, at_exit, all, lasts_of, Triple}
 use types.Kit.{step}
+use prog.Wired.{Wired}
 use Rattle.rules.specs.Tables.{bridge_at}
 use Rattle.rules.specs.Start.{Sound}
 use Rattle.rules.specs.declared.Table.{Table}
@@ -21,7 +22,7 @@ use Rattle.one_bridge.specs.contracts.index as indexed
 use Rattle.one_bridge.proofs.index.Symbol as index-def
 use Rattle.one_bridge.proofs.index.Symbol.{name as #index}
 use Rattle.one_bridge.proofs.index.Met as index-thm
-use Rattle.walks.proofs.Frame.{Groups, group_locals, env_from, first_of, in_group, locals, filled, finds, pack, spread, alloc_all, pass_all, free_all, enters_as, first_cell, later_cell, reads}
+use Rattle.walks.proofs.Frame.{Groups, group_locals, env_from, first_of, in_group, filled, finds, pack, spread, alloc_all, pass_all, free_all, enters_as, first_cell, later_cell, reads}
 use Rattle.walks.proofs.Values.{told, word}
 use Rattle.walks.proofs.Contracts.{Clauses-of, Contracted, Post, came_back, machine, known}
 use Rattle.walks.proofs.Borrowed.{Lent, function, Entering, on_borrow, exits as exits-at}
@@ -57,7 +58,7 @@ module _ {n : ℕ} (En : Ending) (Qs : List (Param n)) where
   abbrev mir_locals : List Local
   mir_locals = group_locals gs
 
-  abbrev mir_body : Name → Code
+  abbrev mir_body : Callee → Code
   mir_body key =
       copying (no 2) (no 3) (lending (outer n) 2 (no 4) All (seq (call key (copy (place (no 3) []) ∷ copy (place (suc (suc (suc (suc (no 3))))) []) ∷ operands (outer n) 2 (no 4) All) (place (En.to (suc (no 2))) [])) (En.code (no 2) (suc (no 2)) (no 5))))
 
@@ -66,7 +67,7 @@ module _ {n : ℕ} (En : Ending) (Qs : List (Param n)) where
     -- what the function and the bridge's call are called with
     open 𝓛 use {H, A}
 
-    module _ (κs : Lfts (suc n)) (x : Bor Table) (a : Args (outer n) κs All) where
+    module _ (κs : Lfts (suc n)) (x : MutBor Table) (a : Args (outer n) κs All) where
       abbrev this : Bridge
       this = bridge_at x.now (index a.1.0)
 
@@ -82,21 +83,21 @@ module _ {n : ℕ} (En : Ending) (Qs : List (Param n)) where
 
     -- the function's `requires` says that the table is sound; the bridge's call's follows; and from what that ensures follows what the function does, at the same last values of the parameters
     abbrev pub Sounds : Type 1
-    Sounds = (κs : Lfts (suc n)) (x : Bor Table) (a : Args (outer n) κs All) (g : (c' κs (x, a)).ghost) → ent 𝓤 ((c' κs (x, a)).requires g) (fact 𝓤 (Sound x.now))
+    Sounds = (κs : Lfts (suc n)) (x : MutBor Table) (a : Args (outer n) κs All) (g : (c' κs (x, a)).ghost) → ent 𝓤 ((c' κs (x, a)).requires g) (fact 𝓤 (Sound x.now))
 
     abbrev pub Asks : Type 1
-    Asks = (κs : Lfts (suc n)) (x : Bor Table) (a : Args (outer n) κs All) → Sound x.now → ent 𝓤 (emp 𝓤) ((c κs.1 (with_bridge_lem κs x a)).requires (ghost κs.1 (with_bridge_lem κs x a)))
+    Asks = (κs : Lfts (suc n)) (x : MutBor Table) (a : Args (outer n) κs All) → Sound x.now → ent 𝓤 (emp 𝓤) ((c κs.1 (with_bridge_lem κs x a)).requires (ghost κs.1 (with_bridge_lem κs x a)))
 
     abbrev pub Says : Type 1
-    Says = (κs : Lfts (suc n)) (x : Bor Table) (a : Args (outer n) κs All) (g : (c' κs (x, a)).ghost) → Sound x.now → (d : En.given.row.Denot) (ws : Lasts' (outer n) κs All a) → ent 𝓤 (Ensured κs x a d ws) (Ensured' κs x a g d ws)
+    Says = (κs : Lfts (suc n)) (x : MutBor Table) (a : Args (outer n) κs All) (g : (c' κs (x, a)).ghost) → Sound x.now → (d : En.given.row.Denot) (ws : Lasts' (outer n) κs All a) → ent 𝓤 (Ensured κs x a d ws) (Ensured' κs x a g d ws)
 
     -- ---- the walk
-    module _ (asks : Asks) (says : Says) (κs : Lfts (suc n)) (qs : Shares (suc n)) (x : Bor Table) (a : Args (outer n) κs All) (g : (c' κs (x, a)).ghost) (sound : Sound x.now) (are : Are (outer n) κs All a) where
+    module _ (asks : Asks) (says : Says) (κs : Lfts (suc n)) (qs : Shares (suc n)) (x : MutBor Table) (a : Args (outer n) κs All) (g : (c' κs (x, a)).ghost) (sound : Sound x.now) (are : Are (outer n) κs All a) where
       abbrev to : (Contracted 𝓛 callee c).Ghost
       to = ((κs.1, qs.1, tt, with_bridge_lem κs x a, spelt (inner n) κs.1 BridgeAll (with_bridge_lem κs x a)), ghost κs.1 (with_bridge_lem κs x a))
 
       abbrev Toks : SProp 𝓤
-      Toks = toks 𝓤 A n κs.1 qs.1
+      Toks = toks 𝓛 n κs.1 qs.1
 
       abbrev End : Val → SProp 𝓤
       End = Post 𝓛 caller c' κs qs (x, a) g
@@ -118,12 +119,12 @@ module _ {n : ℕ} (En : Ending) (Qs : List (Param n)) where
           rewrite ! 4 (λ (F : Fml). ‵ F) (lasts_same (outer n) κs All a ws) refl $ move ! (5 ∷ []) $ use1 𝓛 (raw (Ensured' κs x a g d ws)) (says κs x a g sound d ws) $ move ! (1 ∷ 2 ∷ 3 ∷ 4 ∷ 5 ∷ 0 ∷ []) $
           by ! (exits-at T.the_row All En.result 𝓛 c' κs qs x a g (En.answer d) (En.after x.now a.1.0 d) (lasts_back (outer n) κs All a ws) is)
 
-      module _ (𝓣 : Tables 𝓤 H) (mem : Memory → SProp 𝓤) (run : Routine → Fun 𝓤) (indexes : Triple 𝓤 (𝓣.C #index) (Contracted 𝓛 indexed.ended (indexed.clauses 𝓛 mem run))) (key : Name) (met : Triple 𝓤 (𝓣.C key) (Contracted 𝓛 callee c)) where
+      module _ (𝓣 : Tables 𝓤 H) (mem : Memory → SProp 𝓤) (run : Routine → Fun 𝓤) (indexes : Triple 𝓤 (𝓣.C #index) (Contracted 𝓛 indexed.ended (indexed.clauses 𝓛 mem run))) (key : Callee) (met : Triple 𝓤 (𝓣.C key) (Contracted 𝓛 callee c)) where
         met_at : ent 𝓤 ((Contracted 𝓛 callee c).pre to) (𝓣.C key (word.val x.now.count ∷ bridge.val (this κs x a) ∷ vals (outer n) κs All a) ((Contracted 𝓛 callee c).post to))
         met_at = subst (λ (vs : List Val). ent 𝓤 ((Contracted 𝓛 callee c).pre to) (𝓣.C key (word.val x.now.count ∷ bridge.val (this κs x a) ∷ vs) ((Contracted 𝓛 callee c).post to))) (vals_same (outer n) κs All a) (met to)
 
         walk : Sq 𝓛 (Entering T.the_row All En.result 𝓛 c' κs qs x a g)
-            (allocs mir_locals (λ E. params' E (vptr x.ptr.0 x.ptr.1 ∷ vals (outer n) κs All a) (runs 𝓣.C 𝓣.Λ E (mir_body key) (at_ret E End))))
+            (allocs mir_locals (λ E. params' E (vptr x.ref_ptr.0 x.ref_ptr.1 ∷ vals (outer n) κs All a) (runs 𝓣.C 𝓣.Λ E (mir_body key) (at_ret E End))))
         walk =
             let b = x.ref_ptr.0 in let o = x.ref_ptr.1 in let P = tys (outer n) All in let Z = more_tys (outer n) All in let vs = map some (vals (outer n) κs All a) in let read = filled 0 (word.val x.now.count) (filled 4 (bridge.val (this κs x a)) []) in
             alloc1 ! (λ l. alloc1 ! (λ t. alloc_all 𝓛 P (λ ls. alloc_all 𝓛 (word.ty ∷ En.mids) (λ ms. alloc_all 𝓛 read_tys (λ rs. alloc_all 𝓛 Z (λ es. alloc_all 𝓛 En.lasts (λ xs. alloc0 ! $
@@ -149,13 +150,13 @@ module _ {n : ℕ} (En : Ending) (Qs : List (Param n)) where
 
   -- `contract` is the bridge's, as its module has it: that it is this one is `refl`, which is cheaper than to compare the theorems
   pub on_bridge_lem : {M : Type 1} {𝓤 : Ura M} (𝓛 : Logic 𝓤) (𝓜 : Model 𝓤 𝓛.H) (𝓡 : Running 𝓤 𝓛.H 𝓜) (parts : Clauses-of 𝓤 callee) (parts' : Clauses-of 𝓤 caller) →
-      let c : Clauses 𝓤 callee = parts 𝓛 𝓜.mem 𝓡.run in let c' : Clauses 𝓤 caller = parts' 𝓛 𝓜.mem 𝓡.run in
+      let c : Clauses 𝓤 callee = parts 𝓛 𝓜.mem 𝓡.returns in let c' : Clauses 𝓤 caller = parts' 𝓛 𝓜.mem 𝓡.returns in
       (ghost : (κs : Lfts n) (y : Args (inner n) κs BridgeAll) → (c κs y).ghost) → Sounds 𝓛 c c' ghost → Asks 𝓛 c c' ghost → Says 𝓛 c c' ghost
-      → (γ : Routines) (own key : Name) (f : Fn) → Entry 𝓤 𝓛.H (tables 𝓤 𝓛.H 𝓜 𝓡 γ).C (tables 𝓤 𝓛.H 𝓜 𝓡 γ).Λ own f → f.locals ≡ mir_locals → f.body ≡ mir_body key
-      → (core : Routine) → γ key ≡ core → γ #index ≡ index-def.routine → (contract : (T : Ended) × Clauses-of 𝓤 T) → contract ≡ (callee, parts)
-      → Triple 𝓤 (𝓡.run core) (Contracted 𝓛 contract.0 (contract.1 𝓛.A 𝓜.mem 𝓡.run)) → Triple 𝓤 ((tables 𝓤 𝓛.H 𝓜 𝓡 γ).C own) (Contracted 𝓛 caller c')
-  on_bridge_lem {𝓤 = 𝓤} 𝓛 𝓜 𝓡 parts parts' ghost sounds asks says γ own key f closed f-locals f-body core at-core at-index contract same met =
-      let c : Clauses 𝓤 callee = parts 𝓛 𝓜.mem 𝓡.run in let c' : Clauses 𝓤 caller = parts' 𝓛 𝓜.mem 𝓡.run in
+      → (γ : Routines) (own key : Callee) (f : Fn) → Entry 𝓤 𝓛.H (tables 𝓤 𝓛.H 𝓜 𝓡 γ).C (tables 𝓤 𝓛.H 𝓜 𝓡 γ).Λ own f → f.locals ≡ mir_locals → f.body ≡ mir_body key
+      → (core : Routine) → γ key ≡ core → γ #index ≡ 𝓡.env #index → Wired 𝓡.env index-def.code → (contract : (T : Ended) × Clauses-of 𝓤 T) → contract ≡ (callee, parts)
+      → Triple 𝓤 (𝓡.run core) (Contracted 𝓛 contract.0 (contract.1 𝓛 𝓜.mem 𝓡.returns)) → Triple 𝓤 ((tables 𝓤 𝓛.H 𝓜 𝓡 γ).C own) (Contracted 𝓛 caller c')
+  on_bridge_lem {𝓤 = 𝓤} 𝓛 𝓜 𝓡 parts parts' ghost sounds asks says γ own key f closed f-locals f-body core at-core at-index wired contract same met =
+      let c : Clauses 𝓤 callee = parts 𝓛 𝓜.mem 𝓡.returns in let c' : Clauses 𝓤 caller = parts' 𝓛 𝓜.mem 𝓡.returns in
       on_borrow T.the_row All En.result 𝓛 𝓜 𝓡 c' Sound sounds γ own f closed (λ κs qs x a g are sound.
-      enters_as 𝓛 _ _ f _ _ f-locals f-body (walk 𝓛 c c' ghost asks says κs qs x a g sound are (machine 𝓛 𝓜 𝓡 γ) 𝓜.mem 𝓡.run (known 𝓛 𝓜 𝓡 γ indexed.ended (indexed.clauses 𝓛 𝓜.mem 𝓡.run) #index index-def.routine at-index (index-thm.met 𝓤 𝓛 𝓜 𝓡))
-      key (known 𝓛 𝓜 𝓡 γ callee c key core at-core (subst (λ (p : (T : Ended) × Clauses-of 𝓤 T). Triple 𝓤 (𝓡.run core) (Contracted 𝓛 p.0 (p.1 𝓛.A 𝓜.mem 𝓡.run))) same met))))
+      enters_as 𝓛 _ _ f _ _ f-locals f-body (walk 𝓛 c c' ghost asks says κs qs x a g sound are (machine 𝓛 𝓜 𝓡 γ) 𝓜.mem 𝓡.returns (known 𝓛 𝓜 𝓡 γ indexed.ended (indexed.clauses 𝓛 𝓜.mem 𝓡.returns) #index (𝓡.env #index) at-index (index-thm.met 𝓤 𝓛 𝓜 𝓡 wired))
+      key (known 𝓛 𝓜 𝓡 γ callee c key core at-core (subst (λ (p : (T : Ended) × Clauses-of 𝓤 T). Triple 𝓤 (𝓡.run core) (Contracted 𝓛 p.0 (p.1 𝓛 𝓜.mem 𝓡.returns))) same met))))

@@ -13,7 +13,7 @@ use lib.ListN.{set}
 use Rattle.walks.proofs.Kit.{Ura, full_share, Ty, w64, ty_ref, named, mut, Fits, mem, pointee}
 use types.Logic.{Logic}
 use borrow.Table.Elements.{at_mul}
-use borrow.Struct.Behind.{look_at, put_at}
+use borrow.Struct.Behind.{look_at, put_at_lem}
 use Rattle.rules.specs.Limits.{max_rows}
 use Rattle.rules.specs.Tables.{no_bridge, bridge_at, with_bridge}
 use Rattle.rules.specs.declared.Table.{Table}
@@ -28,7 +28,7 @@ use Rattle.rules.proofs.SessionNumber.TheLaws as S'
 use Rattle.rules.specs.contracts.BridgeNumber as N
 use Rattle.rules.proofs.BridgeNumber.TheLaws as N'
 use Rattle.walks.proofs.Values.{Value, struct, word}
-use Rattle.walks.proofs.Inside.{Inside, record_look, record_put}
+use Rattle.walks.proofs.Inside.{Inside, field-look, field-put}
 
 abbrev pub bridge : Value
 bridge = struct B.the_type B'.the_laws B'.the_plain
@@ -64,14 +64,14 @@ index_in n = mod-lt n.0 (lit< tt)
 module _ {M : Type 1} {𝓤 : Ura M} (𝓛 : Logic 𝓤) (h : Table) (b o : ℕ) where
   pub count_in : Inside 𝓛 full_share T.the_row word.row h h h.count h.count b o (o + max_rows * size)
   unfolding max_rows
-  count_in = record { cut = look_at 𝓛 full_share T.the_type T'.the_laws 1 (max_rows * size) refl refl (b, o) h ((T.struct).as_values h) refl }
+  count_in = record { cut = look_at 𝓛 full_share T.the_type T'.the_loose 1 (max_rows * size) refl refl (b, o) h ((T.struct).as_values h) refl }
 
   pub bridge_look : (i : ℕ) → i < max_rows → Inside 𝓛 full_share T.the_row B.the_row h h (bridge_at h i) (bridge_at h i) b o (offset i o)
   unfolding max_rows
-  bridge_look i lt = record_look 𝓛 full_share T.the_row max_rows 0 b o i lt B.the_type tt h h.bridges no_bridge (at_mul (o + 0) size i) (look_at 𝓛 full_share T.the_type T'.the_laws 0 0 refl refl (b, o) h ((T.struct).as_values h) refl)
+  bridge_look i lt = field-look 𝓛 full_share T.the_row max_rows 0 b o i lt B.the_row tt h h.bridges no_bridge (at_mul (o + 0) size i) (look_at 𝓛 full_share T.the_type T'.the_loose 0 0 refl refl (b, o) h ((T.struct).as_values h) refl)
 
   pub bridge_put : (i : ℕ) → i < max_rows → (y : Bridge) → Inside 𝓛 full_share T.the_row B.the_row h (with_bridge h i y) (bridge_at h i) y b o (offset i o)
   unfolding max_rows
   bridge_put i lt y =
-      record_put 𝓛 full_share T.the_row max_rows 0 b o i lt B.the_type tt h h.bridges no_bridge (at_mul (o + 0) size i) y (with_bridge h i y)
-      (put_at 𝓛 full_share T.the_type T'.the_laws 0 0 refl refl (b, o) h (with_bridge h i y) ((T.struct).as_values h) (set h.bridges i y) refl refl)
+      field-put 𝓛 full_share T.the_row max_rows 0 b o i lt B.the_row tt h h.bridges no_bridge (at_mul (o + 0) size i) y (with_bridge h i y)
+      (put_at_lem 𝓛 full_share T.the_type T'.the_loose 0 0 refl refl (b, o) h (with_bridge h i y) ((T.struct).as_values h) (set h.bridges i y) refl refl)

@@ -8,7 +8,7 @@
 use mathlib.Core.Path.{◌≡◌}
 use Prim.Native.Nat.{ℕ, zero, suc}
 use mathlib.Core.List.{[], ◌∷◌, ◌++◌, List}
-use Rattle.walks.proofs.Kit.{Ura, Name, Operand, Place, Code, seq, call, Val, SProp, ent, sep, emp, via, id⊢, emp∗, mono∗, mono_l, mono_r, Fml, flft, Heap, Env, Calls, Loops, sem, fact, top, Lfts, Shares, toks, Item, Goal, Seq, Post, Soaks, runs, lands, settles, ‵, raw, ◌⊛◌, ⋆, pop, push, ++⊢, ⊢++, ◌$◌, ◌∵◌, !, qed, by, move, keep, drop, use0, use1, use2, split, join, fjoin, frame, Opds, FmC, Is, Slot, plain, yes, heard, calls_at, calls_at_last, Ended, Clauses, Lasts, lasts, at_exit, all, Triple, Model, Running, Routines, Routine, fm_of}
+use Rattle.walks.proofs.Kit.{Ura, Callee, Operand, Place, Code, seq, call, Val, SProp, ent, sep, emp, via, id⊢, emp∗, mono∗, mono_l, mono_r, Fml, flft, Heap, Env, Calls, Loops, sem, fact, top, Lfts, Shares, toks, Item, Goal, Seq, Post, Soaks, runs, lands, settles, ‵, raw, ◌⊛◌, ⋆, pop, push, ++⊢, ⊢++, ◌$◌, ◌∵◌, !, qed, by, move, keep, drop, use0, use1, use2, split, join, fjoin, frame, Opds, FmC, Is, Slot, plain, yes, heard, calls_at, calls_at_last, Ended, Clauses, Lasts, lasts, at_exit, all, Triple, Model, Running, Routines, Routine, fm_of}
 use Rattle.walks.proofs.Values.{Value, told}
 use Rattle.walks.proofs.Contracts.{Clauses-of, Contracted, came_back, machine, known}
 use Rattle.walks.proofs.Params.{Handing, made, shown, given, before, after, Param, val_of, inner, slots, Args, spelt, vals, Owns, Sound}
@@ -20,7 +20,7 @@ tokens (suc n) κs qs = ‵ (flft κs.0 qs.0) ∷ tokens n κs.1 qs.1
 
 module _ {n : ℕ} (κs : Lfts n) where
   abbrev own_of : (P : Param n) → P.Denot → Fml
-  own_of P x = P.own κs x (val_of P.form x ∷ [])
+  own_of P x = P.own_val κs x (val_of P.form x ∷ [])
 
   abbrev pub needed : {M : Type 1} {𝓤 : Ura M} (Ps : List (Param n)) → Args (inner n) κs Ps → List (Item 𝓤)
   needed [] a = []
@@ -40,11 +40,11 @@ module _ {M : Type 1} {𝓤 : Ura M} {n : ℕ} (Ps : List (Param n)) (κs : Lfts
 module _ {M : Type 1} {𝓤 : Ura M} (𝓛 : Logic 𝓤) where
   open 𝓛 use {A}
 
-  pub tokens_in : (n : ℕ) (κs : Lfts n) (qs : Shares n) → ent 𝓤 (⋆ 𝓛 (tokens n κs qs)) (toks 𝓤 A n κs qs)
+  pub tokens_in : (n : ℕ) (κs : Lfts n) (qs : Shares n) → ent 𝓤 (⋆ 𝓛 (tokens n κs qs)) (toks 𝓛 n κs qs)
   tokens_in zero κs qs = id⊢ 𝓤 _
   tokens_in (suc n) κs qs = via 𝓤 _ (pop 𝓛 (‵ (flft κs.0 qs.0)) (tokens n κs.1 qs.1)) (mono_r 𝓤 (A.lft κs.0 qs.0) (tokens_in n κs.1 qs.1))
 
-  pub tokens_out : (n : ℕ) (κs : Lfts n) (qs : Shares n) → ent 𝓤 (toks 𝓤 A n κs qs) (⋆ 𝓛 (tokens n κs qs))
+  pub tokens_out : (n : ℕ) (κs : Lfts n) (qs : Shares n) → ent 𝓤 (toks 𝓛 n κs qs) (⋆ 𝓛 (tokens n κs qs))
   tokens_out zero κs qs = id⊢ 𝓤 _
   tokens_out (suc n) κs qs = via 𝓤 _ (mono_r 𝓤 (A.lft κs.0 qs.0) (tokens_out n κs.1 qs.1)) (push 𝓛 (‵ (flft κs.0 qs.0)) (tokens n κs.1 qs.1))
 
@@ -70,7 +70,7 @@ pub data After : Type 0 where
   then : Place → Code → After
   last : Place → After
 
-abbrev code : Name → List Operand → After → Code
+abbrev code : Callee → List Operand → After → Code
 code f xs (then d rest) = seq (call f xs d) rest
 code f xs (last d) = call f xs d
 
@@ -92,7 +92,7 @@ module _ (n : ℕ) (Ps : List (Param n)) (D : Slot n) where
     Pre = (Contracted 𝓛 callee c).pre to
 
     abbrev Toks : SProp 𝓤
-    Toks = toks 𝓤 A n κs qs
+    Toks = toks 𝓛 n κs qs
 
     abbrev Called : List (Item 𝓤) → List (Item 𝓤)
     Called Γ = raw Pre ∷ (staying κs Ps a ++ Γ)
@@ -113,7 +113,7 @@ module _ (n : ℕ) (Ps : List (Param n)) (D : Slot n) where
 
     -- what came back
     abbrev Came : (D.row κs).Denot → Val → Lasts callee κs a → List (Item 𝓤) → List (Item 𝓤)
-    Came r v ws Γ = ‵ ((D.row κs).own r (v ∷ [])) ∷ ‵ (lasts callee κs a ws) ∷ raw ((c κs a).ensures g r (at_exit callee κs a ws)) ∷ Back Ps κs qs a Γ
+    Came r v ws Γ = ‵ ((D.row κs).own_val r (v ∷ [])) ∷ ‵ (lasts callee κs a ws) ∷ raw ((c κs a).ensures g r (at_exit callee κs a ws)) ∷ Back Ps κs qs a Γ
 
     module _ {K : Type 0} (t : K) (Γ : List (Item 𝓤)) where
       reads_through : {E : Env 𝓤 H} {xs : List Operand} {vs : List Val} → Sound (inner n) κs Ps a → ent 𝓤 (emp 𝓤) ((c κs a).requires g) → Opds K 𝓛 (Asked Ps κs qs a Γ) E xs vs → Opds K 𝓛 (Called Γ) E xs vs
@@ -122,12 +122,12 @@ module _ (n : ℕ) (Ps : List (Param n)) (D : Slot n) where
       lands_with : {G : Goal 𝓤 H} → Soaks G → (v : Val) → ((r : (D.row κs).Denot) (ws : Lasts callee κs a) → Seq K 𝓛 (Came r v ws Γ) G) → Seq K 𝓛 (raw ((Contracted 𝓛 callee c).post to v) ∷ (staying κs Ps a ++ Γ)) G
       lands_with z v k = came_back 𝓛 callee c κs qs a g t z v (λ r ws. move t (1 ∷ 2 ∷ 3 ∷ 0 ∷ []) $ record { prf = via 𝓤 (⋆ 𝓛 (Came r v ws Γ)) (fits r ws) (k r ws).prf })
         where
-          fits : (r : (D.row κs).Denot) (ws : Lasts callee κs a) → ent 𝓤 (⋆ 𝓛 (‵ ((D.row κs).own r (v ∷ [])) ∷ ‵ (lasts callee κs a ws) ∷ raw ((c κs a).ensures g r (at_exit callee κs a ws)) ∷ raw Toks ∷ (staying κs Ps a ++ Γ))) (⋆ 𝓛 (Came r v ws Γ))
+          fits : (r : (D.row κs).Denot) (ws : Lasts callee κs a) → ent 𝓤 (⋆ 𝓛 (‵ ((D.row κs).own_val r (v ∷ [])) ∷ ‵ (lasts callee κs a ws) ∷ raw ((c κs a).ensures g r (at_exit callee κs a ws)) ∷ raw Toks ∷ (staying κs Ps a ++ Γ))) (⋆ 𝓛 (Came r v ws Γ))
           fits r ws =
-              let O : SProp 𝓤 = sem 𝓛 ((D.row κs).own r (v ∷ [])) in let L : SProp 𝓤 = sem 𝓛 (lasts callee κs a ws) in let X : SProp 𝓤 = (c κs a).ensures g r (at_exit callee κs a ws) in
+              let O : SProp 𝓤 = sem 𝓛 ((D.row κs).own_val r (v ∷ [])) in let L : SProp 𝓤 = sem 𝓛 (lasts callee κs a ws) in let X : SProp 𝓤 = (c κs a).ensures g r (at_exit callee κs a ws) in
               mono_r 𝓤 O (mono_r 𝓤 L (via 𝓤 _ (mono_r 𝓤 X (via 𝓤 _ (pop 𝓛 (raw Toks) (staying κs Ps a ++ Γ)) (via 𝓤 _ (mono_l 𝓤 (⋆ 𝓛 (staying κs Ps a ++ Γ)) (tokens_out 𝓛 n κs qs)) (++⊢ 𝓛 (tokens n κs qs) (staying κs Ps a ++ Γ))))) (push 𝓛 (raw X) (Back Ps κs qs a Γ))))
 
-  module _ {M : Type 1} {𝓤 : Ura M} {𝓛 : Logic 𝓤} {K : Type 0} {E : Env 𝓤 𝓛.H} {C : Calls 𝓤 𝓛.H} {Λ : Loops 𝓤 𝓛.H} {q : Post 𝓤 𝓛.H} {f : Name} {xs : List Operand} (c : Clauses 𝓤 callee) (κs : Lfts n) (qs : Shares n) (a : Args (inner n) κs Ps) (Γ : List (Item 𝓤)) where
+  module _ {M : Type 1} {𝓤 : Ura M} {𝓛 : Logic 𝓤} {K : Type 0} {E : Env 𝓤 𝓛.H} {C : Calls 𝓤 𝓛.H} {Λ : Loops 𝓤 𝓛.H} {q : Post 𝓤 𝓛.H} {f : Callee} {xs : List Operand} (c : Clauses 𝓤 callee) (κs : Lfts n) (qs : Shares n) (a : Args (inner n) κs Ps) (Γ : List (Item 𝓤)) where
     open 𝓛 use {H}
 
     pub calls_for : (o : After) → K → FmC 𝓤 H 𝓛.laws C → Triple 𝓤 (C f) (Contracted 𝓛 callee c) → Sound (inner n) κs Ps a → (g : (c κs a).ghost) → ent 𝓤 (emp 𝓤) ((c κs a).requires g) → Opds K 𝓛 (Asked Ps κs qs a Γ) E xs (vals (inner n) κs Ps a)
@@ -143,7 +143,7 @@ module _ (n : ℕ) (Ps : List (Param n)) (V' : Value) where
   abbrev T : Ended
   T = callee n Ps (plain (λ _. V'.row))
 
-  module _ {M : Type 1} {𝓤 : Ura M} {𝓛 : Logic 𝓤} {K : Type 0} {E : Env 𝓤 𝓛.H} {C : Calls 𝓤 𝓛.H} {Λ : Loops 𝓤 𝓛.H} {q : Post 𝓤 𝓛.H} {f : Name} {xs : List Operand}
+  module _ {M : Type 1} {𝓤 : Ura M} {𝓛 : Logic 𝓤} {K : Type 0} {E : Env 𝓤 𝓛.H} {C : Calls 𝓤 𝓛.H} {Λ : Loops 𝓤 𝓛.H} {q : Post 𝓤 𝓛.H} {f : Callee} {xs : List Operand}
       (c : Clauses 𝓤 T) (κs : Lfts n) (qs : Shares n) (a : Args (inner n) κs Ps) (φ : V'.row.Denot → Type 0) (Γ : List (Item 𝓤)) where
     open 𝓛 use {H}
 
@@ -158,9 +158,9 @@ module _ {M : Type 1} {𝓤 : Ura M} (𝓛 : Logic 𝓤) (𝓜 : Model 𝓤 𝓛
   open 𝓛 use {H}
 
   abbrev c : Clauses 𝓤 (T n Ps V')
-  c = parts 𝓛 𝓜.mem 𝓡.run
+  c = parts 𝓛 𝓜.mem 𝓡.returns
 
-  pub invokes : {K : Type 0} {E : Env 𝓤 H} {q : Post 𝓤 H} {f : Name} {xs : List Operand} (κs : Lfts n) (qs : Shares n) (a : Args (inner n) κs Ps) (φ : V'.row.Denot → Type 0) (Γ : List (Item 𝓤)) (o : After) → K
+  pub invokes : {K : Type 0} {E : Env 𝓤 H} {q : Post 𝓤 H} {f : Callee} {xs : List Operand} (κs : Lfts n) (qs : Shares n) (a : Args (inner n) κs Ps) (φ : V'.row.Denot → Type 0) (Γ : List (Item 𝓤)) (o : After) → K
       → (r : Routine) → γ f ≡ r → Triple 𝓤 (𝓡.run r) (Contracted 𝓛 (T n Ps V') c) → Sound (inner n) κs Ps a → (g : (c κs a).ghost) → ent 𝓤 (emp 𝓤) ((c κs a).requires g)
       → ((y : V'.row.Denot) (ws : Lasts (T n Ps V') κs a) → ent 𝓤 ((c κs a).ensures g y (at_exit (T n Ps V') κs a ws)) (fact 𝓤 (φ y))) → Opds K 𝓛 (Asked Ps κs qs a Γ) E xs (vals (inner n) κs Ps a)
       → ((y : V'.row.Denot) → Is V'.row y (V'.val y ∷ []) → φ y → Seq K 𝓛 (Back Ps κs qs a Γ) (goes (machine 𝓛 𝓜 𝓡 γ).C (machine 𝓛 𝓜 𝓡 γ).Λ E q o (V'.val y))) → Seq K 𝓛 (Asked Ps κs qs a Γ) (runs (machine 𝓛 𝓜 𝓡 γ).C (machine 𝓛 𝓜 𝓡 γ).Λ E (code f xs o) q)

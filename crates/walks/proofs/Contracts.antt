@@ -5,10 +5,10 @@
 --     meets            a run meets the contract, from a walk with the parameters' machine values written out and their relations in hand
 --     machine          what a program's calls and loops run on.        Clauses-of      a contract's clauses, as each crate's theorems have them
 --     walked           a function of the program meets its contract, by such a walk of its code.        known      a callee does, by the theorem of its own
--- `ends`, `came_back` and `meets` assume `Logic`, `walked` and `known` nothing.
+-- All of it takes `Logic`, as every statement about a function does.
 use mathlib.Core.Path.{◌≡◌}
 use mathlib.Core.List.{List, [], ◌∷◌}
-use Rattle.walks.proofs.Kit.{Ura, Name, Fn, Val, SProp, ent, sep, wand, ex, via, comm∗, mono_l, wand_i, apply∗, id⊢, Memory, Model, Routine, Routines, WpFn, Tables, Entry, sem, Fun, Lfts, Shares, AllOutlive, Running, tables, Goal, Item, Seq, Soaks, ‵, raw, ◌⊛◌, some, later, ⋆, ◌$◌, ◌∵◌, !, qed, move, use1, split, join, pick, await, show, frame, updating, now as at_once, done, flat, Ises, Are, Spells, valss, Tellss, Signature, type_at, types_at, said, Ended, Clauses, Lasts, at_exit, lasts, ensured, closing, Args, Vals, Res, alive, on_entry, Contract, Triple}
+use Rattle.walks.proofs.Kit.{Ura, Callee, Fn, Val, SProp, ent, sep, wand, ex, via, comm∗, mono_l, wand_i, apply∗, id⊢, Memory, Model, Routine, Routines, WpFn, Tables, Entry, sem, Fun, Lfts, Shares, AllOutlive, Running, tables, Goal, Item, Seq, Soaks, ‵, raw, ◌⊛◌, some, later, ⋆, ◌$◌, ◌∵◌, !, qed, move, use1, split, join, pick, await, show, frame, updating, now as at_once, done, flat, Ises, Are, Spells, valss, Tellss, Signature, type_at, types_at, said, Ended, Clauses, Lasts, at_exit, lasts, ensured, closing, Args, Vals, Res, alive, on_entry, Contract, Triple}
 use types.Logic.{Logic, sem}
 use contract.Running.{tables_of}
 use denote.Triple.Spec.{triple_of}
@@ -74,11 +74,11 @@ module _ {M : Type 1} {𝓤 : Ura M} (𝓛 : Logic 𝓤) (𝓜 : Model 𝓤 𝓛
   machine = tables_of 𝓤 H 𝓜 (tables 𝓤 H 𝓜 𝓡 γ)
 
   module _ (T : Ended) (c : Clauses 𝓤 T) where
-    pub known : (k : Name) (r : Routine) → γ k ≡ r → Triple 𝓤 (𝓡.run r) (Contracted 𝓛 T c) → Triple 𝓤 (machine.C k) (Contracted 𝓛 T c)
+    pub known : (k : Callee) (r : Routine) → γ k ≡ r → Triple 𝓤 (𝓡.run r) (Contracted 𝓛 T c) → Triple 𝓤 (machine.C k) (Contracted 𝓛 T c)
     unfolding tables_of
     known k r e met = cited 𝓤 H (Contracted 𝓛 T c) 𝓜 𝓡 γ k r e met
 
-    pub walked : (own : Name) (f : Fn) → Entry 𝓤 H (tables 𝓤 H 𝓜 𝓡 γ).C (tables 𝓤 H 𝓜 𝓡 γ).Λ own f → (sp : (κs : Lfts T.signature.lifetimes) → Spells (types_at T.signature.params κs))
+    pub walked : (own : Callee) (f : Fn) → Entry 𝓤 H (tables 𝓤 H 𝓜 𝓡 γ).C (tables 𝓤 H 𝓜 𝓡 γ).Λ own f → (sp : (κs : Lfts T.signature.lifetimes) → Spells (types_at T.signature.params κs))
         → ((κs : Lfts T.signature.lifetimes) → Tellss (types_at T.signature.params κs) (Ises (types_at T.signature.params κs)) (sp κs))
         → (WalkOf 𝓛 T c sp (WpFn 𝓤 H machine.C machine.Λ f)) → Triple 𝓤 ((tables 𝓤 H 𝓜 𝓡 γ).C own) (Contracted 𝓛 T c)
     unfolding tables_of

@@ -1,8 +1,9 @@
 -- A part of a value in memory: it is taken out, and it or another is put in its place. For any type, any field, any element type and any length.
 --     Inside           R at h lies at (b, o), with F at f in it at (b, p); with f' there it is R at h'
---     _then_           what is inside a part is inside the whole
+--     ◌then◌           what is inside a part is inside the whole
 --     item_put         element i of an array is inside, to be replaced
---     record_look, record_put      element i of a field that is an array of structs is inside, to be left as it is or replaced: of the field's `look_at` or `put-at` (borrow.Struct.Behind)
+--     field-look, field-put        element i of a field that is an array is inside, to be left as it is or replaced: of the field's `look_at` or `put_at_lem` (borrow.Struct.Behind)
+--     record_look, record_put      the same of a field that is an array of structs, where the field stands at the structs' tuples
 --     take, put        as steps: the part is taken out, its machine value written out and its relation in hand; and put in its place
 -- The lemmas assume `Logic`.
 use mathlib.Core.Path.{◌≡◌, refl, sym, ◌∙◌, subst}
@@ -18,7 +19,7 @@ use borrow.Table.Elements.{at, focus, glance}
 use borrow.Rule.Slice.Shared.{Sh, parts-cells}
 use denote.Struct.Struct.{Struct}
 use denote.Struct.Declared.{Declared, row, shape}
-use borrow.Struct.Items.{cut-records}
+use borrow.Struct.Items.{Array-same}
 use borrow.Struct.Way.{Cut}
 use Rattle.walks.proofs.Values.{Value}
 
@@ -70,15 +71,27 @@ module _ {M : Type 1} {𝓤 : Ura M} {𝓛 : Logic 𝓤} where
 
 -- ---- element i of a field that is an array of n, d bytes from the start of R; x₀ is what stands past the array's end, p the place that MIR computes
 module _ {M : Type 1} {𝓤 : Ura M} (𝓛 : Logic 𝓤) (q : Share) (R : RattleType) (n d b o i : ℕ) (lt : i < n) where
+  module _ (F : RattleType) (one : Single F.mir) (h : R.Denot) (xs : List F.Denot) (x₀ : F.Denot) {p : ℕ} (e : at (o + d) (mem F).size i ≡ p) where
+    pub field-look : Cut 𝓛 q R (Array F n) d h h xs xs (b, o) → Inside 𝓛 q R F h h (get_or xs i x₀) (get_or xs i x₀) b o p
+    field-look c = record { cut = c } then item_look 𝓛 q F one n i p b (o + d) xs x₀ e lt
+
+    pub field-put : (y : F.Denot) (h' : R.Denot) → Cut 𝓛 q R (Array F n) d h h' xs (set xs i y) (b, o) → Inside 𝓛 q R F h h' (get_or xs i x₀) y b o p
+    field-put y h' c = record { cut = c } then item_put 𝓛 q F one n i p b (o + d) xs x₀ e lt y
+
   module _ (E : Declared) (one : Single (row E).mir) (h : R.Denot) (xs : List E.D) (x₀ : E.D) {p : ℕ} (e : at (o + d) (mem (row E)).size i ≡ p) where
     abbrev Records : R.Denot → List E.D → Type 1
     Records h' ys = Cut 𝓛 q R (Array (Struct (shape E)) n) d h h' (map E.to xs) (map E.to ys) (b, o)
 
+    at-structs : (h' : R.Denot) (ys : List E.D) → Records h' ys → Cut 𝓛 q R (Array (row E) n) d h h' xs ys (b, o)
+    at-structs h' ys c =
+        subst (λ (F : Fml). ent 𝓤 (Lies 𝓛 q R h b o) (sep 𝓤 (sem 𝓛 F) (wand 𝓤 (Lies 𝓛 q (Array (row E) n) ys b (o + d)) (Lies 𝓛 q R h' b o)))) (sym (Array-same (Struct (shape E)) E.D E.to E.to_one n q xs b (o + d)))
+        (subst (λ (F : Fml). ent 𝓤 (Lies 𝓛 q R h b o) (sep 𝓤 (Lies 𝓛 q (Array (Struct (shape E)) n) (map E.to xs) b (o + d)) (wand 𝓤 (sem 𝓛 F) (Lies 𝓛 q R h' b o)))) (sym (Array-same (Struct (shape E)) E.D E.to E.to_one n q ys b (o + d))) c)
+
     pub record_look : Records h xs → Inside 𝓛 q R (row E) h h (get_or xs i x₀) (get_or xs i x₀) b o p
-    record_look c = record { cut = cut-records 𝓛 q R E n d h h xs xs (b, o) c } then item_look 𝓛 q (row E) one n i p b (o + d) xs x₀ e lt
+    record_look c = field-look (row E) one h xs x₀ e (at-structs h xs c)
 
     pub record_put : (y : E.D) (h' : R.Denot) → Records h' (set xs i y) → Inside 𝓛 q R (row E) h h' (get_or xs i x₀) y b o p
-    record_put y h' c = record { cut = cut-records 𝓛 q R E n d h h' xs (set xs i y) (b, o) c } then item_put 𝓛 q (row E) one n i p b (o + d) xs x₀ e lt y
+    record_put y h' c = field-put (row E) one h xs x₀ e y h' (at-structs h' (set xs i y) c)
 
 -- the way back, with f' there
 abbrev pub Back : {M : Type 1} {𝓤 : Ura M} {𝓛 : Logic 𝓤} {q : Share} {R F : RattleType} {h h' : R.Denot} {f f' : F.Denot} {b o p : ℕ} → Inside 𝓛 q R F h h' f f' b o p → Item 𝓤

@@ -7,7 +7,10 @@
 --     carry, vals_same, owns_same, lasts_back, lasts_same      from a signature to `inner`, and back: the machine values, what is owned, and what is said of last values stay
 -- Assumes nothing; the laws take `Logic`.
 use types.Logic.{Logic, sem}
-use denote.Ref.{Bor, MutBor}
+use denote.Bor.{Bor}
+use denote.MutBor.{MutBor}
+use denote.RattleType.{RowLaws}
+use base.Fml.{Lft}
 use mathlib.Core.Path.{◌≡◌, refl, ap}
 use mathlib.Core.Bool.{Bool}
 use mathlib.Core.Option.{Option, some}
@@ -15,7 +18,7 @@ use Prim.Native.Nat.{ℕ, suc}
 use mathlib.Core.List.{[], ◌∷◌, List}
 use lib.Dec.{T as So}
 use lib.ListN.{length}
-use Rattle.walks.proofs.Kit.{Ura, Lifetime, Ty, Written, imm, mut, erased, named, ty_ref, Operand, Code, place, copy, deref, field, addr_of, aggregate, assign, seq, Val, vptr, WT, has_ty, SProp, ent, sep, emp, via, emp∗, comm∗, mono_l, Fml, fsep, sem, Lfts, Within, lft_at, Item, ‵, ⋆, sub, RattleType, Denots, Valss, flat, owns, Ises, Are, Spells, valss, Tellss, pointee, RefT, slice_ty, slice_val, MutSlice, ShrSlice, shr_slice_Tells, shr_slice_Lawful, shr_slice_copy, mut_slice_Tells, mut_slice_Lawful, Exit, yes, left, Slot, plain, types_at, all, Fins, lasts_of}
+use Rattle.walks.proofs.Kit.{Ura, Lifetime, Ty, Written, imm, mut, erased, named, ty_ref, Operand, Code, place, copy, deref, field, addr_of, aggregate, assign, seq, Val, vptr, WT, has_ty, SProp, ent, sep, emp, via, emp∗, comm∗, mono_l, Fml, fsep, sem, Lfts, Within, lft_at, Item, ‵, ⋆, RattleType, Denots, Valss, flat, owns, Ises, Are, Spells, valss, Tellss, pointee, slice_ty, slice_val, MutSlice, ShrSlice, shr_slice_Tells, shr_slice_Lawful, shr_slice_copy, mut_slice_Tells, mut_slice_Lawful, Exit, yes, left, Slot, plain, types_at, all, Fins, lasts_of}
 use base.Stored.{Coded}
 use denote.Shadow.{shadow}
 use Rattle.walks.proofs.Frame.{Blocks, Typed}
@@ -81,15 +84,17 @@ pub record Param (n : ℕ) : Type 2 where
   pub form : Form Denot
   pub lifetime : ℕ
   pub handing : Handing
-  pub own : Lfts n → Denot → List Val → Fml
-  pub exit : Bool → Exit Denot
+  pub lives : Lfts n → Lft
+  pub own_val : Lfts n → Denot → List Val → Fml
+  pub exit : Lfts n → Bool → Exit Denot
   pub coded : Coded Denot
   pub written : Lifetime → Written
   pub reaches : List (Written × List Ty)
-  pub tells : (κs : Lfts n) (x : Denot) (vs : List Val) → shadow (own κs x vs) → vs ≡ val_of form x ∷ []
-  pub typed : {M : Type 1} {𝓤 : Ura M} (𝓛 : Logic 𝓤) → (κs : Lfts n) (x : Denot) → shadow (own κs x (val_of form x ∷ [])) → (ℓ : Lifetime) → So (has_ty (type_of form ℓ) (val_of form x)) × WT (val_of form x)
-  pub had : {M : Type 1} {𝓤 : Ura M} (𝓛 : Logic 𝓤) → (κs : Lfts n) (x : Denot) → shadow (own κs x (val_of form x ∷ []))
-      → ent 𝓤 (⋆ 𝓛 (before handing (own κs x (val_of form x ∷ [])))) (sep 𝓤 (sem 𝓛 (own κs x (val_of form x ∷ []))) (⋆ 𝓛 (after handing (own κs x (val_of form x ∷ [])))))
+  pub shr_at : Lfts n → Denot → ℕ → ℕ → Lft → Fml
+  pub tells : (κs : Lfts n) (x : Denot) (vs : List Val) → shadow (own_val κs x vs) → vs ≡ val_of form x ∷ []
+  pub typed : {M : Type 1} {𝓤 : Ura M} (𝓛 : Logic 𝓤) → (κs : Lfts n) (x : Denot) → shadow (own_val κs x (val_of form x ∷ [])) → (ℓ : Lifetime) → So (has_ty (type_of form ℓ) (val_of form x)) × WT (val_of form x)
+  pub had : {M : Type 1} {𝓤 : Ura M} (𝓛 : Logic 𝓤) → (κs : Lfts n) (x : Denot) → shadow (own_val κs x (val_of form x ∷ []))
+      → ent 𝓤 (⋆ 𝓛 (before handing (own_val κs x (val_of form x ∷ [])))) (sep 𝓤 (sem 𝓛 (own_val κs x (val_of form x ∷ []))) (⋆ 𝓛 (after handing (own_val κs x (val_of form x ∷ [])))))
 
 module _ {n : ℕ} where
   abbrev pub value : Value → Param n
@@ -98,31 +103,35 @@ module _ {n : ℕ} where
     form = copied (λ ℓ. V'.ty) V'.val;
     lifetime = 0;
     handing = made;
+    lives = λ κs. V'.row.lives;
     own_val = λ κs. V'.row.own_val;
-    exit = λ b. V'.row.exit (λ _. b);
+    exit = λ κs b. V'.row.exit (λ _. b);
     coded = V'.row.coded;
     written = λ ℓ. V'.row.written;
     reaches = V'.row.reaches;
+    shr_at = λ κs. V'.row.shr_at;
     tells = λ κs. V'.tells;
     typed = λ 𝓛 κs x is ℓ. V'.typed 𝓛 x is;
     had = λ {𝓤 = 𝓤} 𝓛 κs x is. via 𝓤 (sep 𝓤 (emp 𝓤) (emp 𝓤)) (emp∗ 𝓤 (emp 𝓤)) (mono_l 𝓤 (emp 𝓤) (V'.makes 𝓛 x _ is));
   }
 
   -- at the lifetime j
-  abbrev pub shared_slice : (j : ℕ) → Within n j → RattleType → Param n
-  shared_slice j ok R = record {
+  abbrev pub shared_slice : (j : ℕ) → Within n j → (R : RattleType) → RowLaws R → Param n
+  shared_slice j ok R laws = record {
     Denot = Bor (List R.Denot);
     form = copied (λ ℓ. slice_ty (ty_ref ℓ imm (pointee R.written))) (λ x. slice_val x.ref_ptr (length x.now));
     lifetime = j;
     handing = shown;
+    lives = λ κs. (ShrSlice erased (lft_at n j ok κs) R).lives;
     own_val = λ κs. (ShrSlice erased (lft_at n j ok κs) R).own_val;
-    exit = λ b. (ShrSlice erased [] R).exit (λ _. b);
+    exit = λ κs b. (ShrSlice erased (lft_at n j ok κs) R).exit (λ _. b);
     coded = (ShrSlice erased [] R).coded;
     written = λ ℓ. (ShrSlice ℓ [] R).written;
     reaches = (ShrSlice erased [] R).reaches;
+    shr_at = λ κs. (ShrSlice erased (lft_at n j ok κs) R).shr_at;
     tells = λ κs. shr_slice_Tells erased (lft_at n j ok κs) R;
     typed = λ 𝓛 κs x is ℓ. ((shr_slice_Lawful 𝓛 ℓ (lft_at n j ok κs) R).typed x _ is).0;
-    had = λ 𝓛 κs x is. (shr_slice_copy 𝓛 erased (lft_at n j ok κs) R).twice x _;
+    had = λ 𝓛 κs x is. (shr_slice_copy 𝓛 erased (lft_at n j ok κs) R laws).twice x _;
   }
 
   abbrev pub mut_slice : (j : ℕ) → Within n j → RattleType → Param n
@@ -131,11 +140,13 @@ module _ {n : ℕ} where
     form = lent (pointee R.written) (λ x. x.ref_ptr) (λ x. length x.now);
     lifetime = j;
     handing = given;
+    lives = λ κs. (MutSlice erased (lft_at n j ok κs) R).lives;
     own_val = λ κs. (MutSlice erased (lft_at n j ok κs) R).own_val;
-    exit = λ b. (MutSlice erased [] R).exit (λ _. b);
+    exit = λ κs b. (MutSlice erased (lft_at n j ok κs) R).exit (λ _. b);
     coded = (MutSlice erased [] R).coded;
     written = λ ℓ. (MutSlice ℓ [] R).written;
     reaches = (MutSlice erased [] R).reaches;
+    shr_at = λ κs. (MutSlice erased (lft_at n j ok κs) R).shr_at;
     tells = λ κs. mut_slice_Tells erased (lft_at n j ok κs) R;
     typed = λ 𝓛 κs x is ℓ. ((mut_slice_Lawful 𝓛 ℓ (lft_at n j ok κs) R).typed x _ is).0;
     had = λ {𝓤 = 𝓤} 𝓛 κs x is. let O : SProp 𝓤 = sem 𝓛 ((MutSlice erased (lft_at n j ok κs) R).own_val x (slice_val x.ref_ptr (length x.now) ∷ [])) in via 𝓤 (sep 𝓤 (emp 𝓤) O) (emp∗ 𝓤 O) (comm∗ 𝓤 (emp 𝓤) O);
@@ -163,9 +174,11 @@ module _ {n : ℕ} (X : View n) where
     mir = ty P ∷ [];
     written = P.written (X.name P.lifetime);
     reaches = P.reaches;
-    own_val = P.own (X.sub κs);
-    exit = λ k. P.exit (k (X.name P.lifetime));
+    lives = P.lives (X.sub κs);
+    own_val = P.own_val (X.sub κs);
+    exit = λ k. P.exit (X.sub κs) (k (X.name P.lifetime));
     coded = P.coded;
+    shr_at = P.shr_at (X.sub κs);
   })
 
   abbrev pub slots : List (Param n) → List (Slot X.lifetimes)
@@ -220,7 +233,7 @@ module _ {n : ℕ} (X : View n) (κs : Lfts X.lifetimes) where
 
   pub owns_same : (Ps : List (Param n)) (a : Args X κs Ps) → Owns X κs Ps a ≡ Owns (inner n) κs' Ps (carry Ps a)
   owns_same [] a = refl
-  owns_same (P ∷ Ps) a = ap (fsep (P.own κs' a.0 (val_of P.form a.0 ∷ []))) (owns_same Ps a.1)
+  owns_same (P ∷ Ps) a = ap (fsep (P.own_val κs' a.0 (val_of P.form a.0 ∷ []))) (owns_same Ps a.1)
 
   -- what a contract binds of them at exit, and what it says of that
   abbrev pub Lasts' : (Ps : List (Param n)) → Args X κs Ps → Type 0
@@ -232,4 +245,4 @@ module _ {n : ℕ} (X : View n) (κs : Lfts X.lifetimes) where
 
   pub lasts_same : (Ps : List (Param n)) (a : Args X κs Ps) (ws : Lasts' Ps a) → lasts_of κs' (slots (inner n) Ps) (all yes (slots (inner n) Ps)) (carry Ps a) ws ≡ lasts_of κs (slots X Ps) (all yes (slots X Ps)) a (lasts_back Ps a ws)
   lasts_same [] a ws = refl
-  lasts_same (P ∷ Ps) a ws = ap (fsep (left (P.exit (yes (X.name P.lifetime))) a.0 ws.0)) (lasts_same Ps a.1 ws.1)
+  lasts_same (P ∷ Ps) a ws = ap (fsep (left (P.exit κs' (yes (X.name P.lifetime))) a.0 ws.0)) (lasts_same Ps a.1 ws.1)

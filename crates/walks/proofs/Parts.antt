@@ -3,7 +3,7 @@
 --     Holding          the struct: a number and a part
 --     search, cut, function    the three signatures.        mir_locals, mir_body      the function's MIR. Of a function that is known, that it has these is `refl`
 --     hands_part       the function meets its contract, where the two meet theirs and the one follows from the others
--- Assumes nothing: the walk takes `Logic`, which `hands_part` has of the machine.
+-- The lemmas take `Logic`, as every statement about a function does.
 use types.Logic.{Logic, sem}
 use denote.Slice.{shr_slice_vals}
 use denote.Ref.{Bor}
@@ -13,8 +13,8 @@ use Prim.Native.Nat.{ℕ, zero, suc}
 use mathlib.Core.List.{[], ◌∷◌, List, map}
 use lib.Dec.{T as So}
 use lib.ListN.{length}
-use Rattle.walks.proofs.Kit.{Ura, full_share, Ty, Name, Local, Fn, w8, ty_int, ty_ref, erased, imm, named, Operand, Code, place, copy, field, aggregate, assign, call, seq, return, Val, Fits, vint, vstruct, of_list, WT, has_ty, SProp, ent, sep, emp, via, emp∗, comm∗, mono_l, mono_r, id⊢, Fml, ftrue, fsep, fat, field_of, Model, Routine, Routines, Env, WpFn, Tables, Entry, sem, fact, Lfts, Shares, toks, Running, tables, Go, Item, Sq, allocs, params', runs, at_ret, lands, nth, ‵, raw, ◌⊛◌, ⋆, ◌$◌, ◌∵◌, !, qed, by, move, drop, rewrite, use0, use1, use2, split, join, fjoin, suffices, frame, done, agg, Reads, Opds, look, init, forget, stop, fld, from, load, and_then, no_more, assigns, land, returns, alloc1, alloc0, params1, free1, free0, fm_of, RattleType, Is, shows, u8, RefT, NamedLft, plain, shr_slice_of, named_lft, slice_ty, slice_val, ShrSlice, slice-vals, shr_slice_Tells, shr_slice_Lawful, shr_slice_copy, owned, peeks, heard, nothing, only, calls_at, Ended, Clauses, Lasts, lasts, at_exit, on_entry, Triple}
-use denote.Plain.{uint_Makes}
+use Rattle.walks.proofs.Kit.{Ura, full_share, Ty, Callee, Local, Fn, w8, ty_int, ty_ref, erased, imm, named, Operand, Code, place, copy, field, aggregate, assign, call, seq, return, Val, Fits, vint, vstruct, of_list, WT, has_ty, SProp, ent, sep, emp, via, emp∗, comm∗, mono_l, mono_r, id⊢, Fml, ftrue, fsep, fat, field_of, Model, Routine, Routines, Env, WpFn, Tables, Entry, sem, fact, Lfts, Shares, toks, Running, tables, Go, Item, Sq, allocs, params', runs, at_ret, lands, nth, ‵, raw, ◌⊛◌, ⋆, ◌$◌, ◌∵◌, !, qed, by, move, drop, rewrite, use0, use1, use2, split, join, fjoin, suffices, frame, done, agg, Reads, Opds, look, init, forget, stop, fld, from, load, and_then, no_more, assigns, land, returns, alloc1, alloc0, params1, free1, free0, fm_of, RattleType, Is, shows, u8, NamedLft, plain, shr_slice_of, named_lft, slice_ty, slice_val, ShrSlice, shr_slice_Tells, shr_slice_Lawful, shr_slice_copy, owned, peeks, heard, nothing, only, calls_at, Ended, Clauses, Lasts, lasts, at_exit, on_entry, Triple}
+use denote.Plain.{uint_Makes, uint_row_laws}
 use Rattle.walks.proofs.Frame.{Blocks, Cells, Cell, Groups, group_locals, env_from, first_of, in_group, Bound, finds, alloc_all, pass_all, free_all, enters_as, first_cell, later_cell, reads}
 use Rattle.walks.proofs.Values.{Value, told}
 use Rattle.walks.proofs.Contracts.{Clauses-of, Contracted, Post, ends, came_back, machine, known, walked}
@@ -38,12 +38,12 @@ pub record Holding : Type 2 where
   pub made : (α : NamedLft) → ℕ → Bor (List ℕ) → (row α).Denot
   pub typed : (n : ℕ) (r : Bor (List ℕ)) → Fits w8 n → WT (slice_val r.ref_ptr (length r.now)) → So (has_ty ty (pair n r)) × WT (pair n r)
   pub shut : {M : Type 1} {𝓤 : Ura M} (𝓛 : Logic 𝓤) → (α : NamedLft) (n : ℕ) (r : Bor (List ℕ))
-      → ent 𝓤 (sem 𝓛 (fsep (u8.own_val n (vint w8 n ∷ [])) (fsep ((ShrSlice α.mir α.lft u8).own_val r (shr_slice_vals r)) ftrue))) (sem 𝓛 ((row α).own (made α n r) (pair n r ∷ [])))
+      → ent 𝓤 (sem 𝓛 (fsep (u8.own_val n (vint w8 n ∷ [])) (fsep ((ShrSlice α.mir α.lft u8).own_val r (shr_slice_vals r)) ftrue))) (sem 𝓛 ((row α).own_val (made α n r) (pair n r ∷ [])))
 
 -- m slices before other parameters
 abbrev slices_and : ℕ → List (Param 1) → List (Param 1)
 slices_and zero Ps = Ps
-slices_and (suc m) Ps = shared_slice 0 tt u8 ∷ slices_and m Ps
+slices_and (suc m) Ps = shared_slice 0 tt u8 (uint_row_laws w8) ∷ slices_and m Ps
 
 -- the locals from number k on, one for each parameter, and for each of m
 abbrev copies : ℕ → List (Param 1) → List Operand
@@ -85,10 +85,10 @@ module _ (m : ℕ) (Vs : List Value) (Pl : Placed) (Ho : Holding) where
   abbrev mir_locals : List Local
   mir_locals = group_locals gs
 
-  abbrev cutting : Name → Code
+  abbrev cutting : Callee → Code
   cutting #cut = seq (call #cut (copies_and m 1 (copy (place at# []) ∷ [])) (place (suc at#) [])) (seq (assign (place 0 []) (aggregate (copy (place at# (field 0 ∷ [])) ∷ copy (place (suc at#) []) ∷ []))) return)
 
-  abbrev mir_body : Name → Name → Code
+  abbrev mir_body : Callee → Callee → Code
   mir_body #search #cut = seq (call #search (copies 1 Ps) (place at# [])) (cutting #cut)
 
   -- what the cut is called with
@@ -99,7 +99,7 @@ module _ (m : ℕ) (Vs : List Value) (Pl : Placed) (Ho : Holding) where
   -- what the slices own
   abbrev Slices : (k : ℕ) (κs : Lfts 1) → Args (inner 1) κs (slices_and k (map value Vs)) → Fml
   Slices zero κs a = ftrue
-  Slices (suc k) κs a = fsep ((Slice κs).own a.0 (shr_slice_vals a.0)) (Slices k κs a.1)
+  Slices (suc k) κs a = fsep ((Slice κs).own_val a.0 (shr_slice_vals a.0)) (Slices k κs a.1)
 
   module _ {M : Type 1} {𝓤 : Ura M} (𝓛 : Logic 𝓤) (κs : Lfts 1) where
     -- it is had again beside what the parameters own, and with a place it is what the cut's parameters own
@@ -108,13 +108,13 @@ module _ (m : ℕ) (Vs : List Value) (Pl : Placed) (Ho : Holding) where
     again : (k : ℕ) (a : Args (inner 1) κs (slices_and k (map value Vs))) → ent 𝓤 (sem 𝓛 (Owns (inner 1) κs (slices_and k (map value Vs)) a)) (sep 𝓤 (sem 𝓛 (Owns (inner 1) κs (slices_and k (map value Vs)) a)) (sem 𝓛 (Slices k κs a)))
     again zero a = let X : SProp 𝓤 = sem 𝓛 (Owns (inner 1) κs (map value Vs) a) in via 𝓤 (sep 𝓤 (emp 𝓤) X) (emp∗ 𝓤 X) (comm∗ 𝓤 (emp 𝓤) X)
     again (suc k) a =
-        let O = (Slice κs).own a.0 (shr_slice_vals a.0) in let R = Owns (inner 1) κs (slices_and k (map value Vs)) a.1 in
-        qed 𝓛 (‵ O ∷ ‵ R ∷ []) ∵ use1 𝓛 (‵ O ⊛ ‵ O) ((shr_slice_copy 𝓛 (named 0) κs.0 u8).twice a.0 (shr_slice_vals a.0)) $ split ! $ move ! (2 ∷ []) $ use1 𝓛 (‵ R ⊛ ‵ (Slices k κs a.1)) (again k a.1) $ split ! $
+        let O = (Slice κs).own_val a.0 (shr_slice_vals a.0) in let R = Owns (inner 1) κs (slices_and k (map value Vs)) a.1 in
+        qed 𝓛 (‵ O ∷ ‵ R ∷ []) ∵ use1 𝓛 (‵ O ⊛ ‵ O) ((shr_slice_copy 𝓛 (named 0) κs.0 u8 (uint_row_laws w8)).twice a.0 (shr_slice_vals a.0)) $ split ! $ move ! (2 ∷ []) $ use1 𝓛 (‵ R ⊛ ‵ (Slices k κs a.1)) (again k a.1) $ split ! $
         move ! (2 ∷ 0 ∷ []) $ fjoin ! $ frame ! $ move ! (1 ∷ 0 ∷ []) $ done !
 
     cut_owns : (k : ℕ) (a : Args (inner 1) κs (slices_and k (map value Vs))) (p : Pl.value.row.Denot) → Is Pl.value.row p (Pl.value.val p ∷ []) → ent 𝓤 (sem 𝓛 (Slices k κs a)) (sem 𝓛 (Owns (inner 1) κs (slices_and k (value Pl.value ∷ [])) (cut_args k κs a p)))
     cut_owns zero a p is = via 𝓤 (sep 𝓤 (emp 𝓤) (emp 𝓤)) (emp∗ 𝓤 (emp 𝓤)) (mono_l 𝓤 (emp 𝓤) (Pl.value.makes 𝓛 p _ is))
-    cut_owns (suc k) a p is = mono_r 𝓤 (sem 𝓛 ((Slice κs).own a.0 (shr_slice_vals a.0))) (cut_owns k a.1 p is)
+    cut_owns (suc k) a p is = mono_r 𝓤 (sem 𝓛 ((Slice κs).own_val a.0 (shr_slice_vals a.0))) (cut_owns k a.1 p is)
 
     -- the operands, where the parameters' cells are in F, entry j of the context
     abbrev Up : Fml → (Qs : List (Param 1)) → Args (inner 1) κs Qs → Blocks (tys (inner 1) Qs) → Type 2
@@ -147,7 +147,7 @@ module _ (m : ℕ) (Vs : List Value) (Pl : Placed) (Ho : Holding) where
     Says = (κs : Lfts 1) (a : Args (inner 1) κs Ps) (g : (c κs a).ghost) (p : Pl.value.row.Denot) → φ κs a p → (r : Bor (List ℕ)) (ws : Lasts cut κs (cut_args m κs a p)) (ws' : Lasts function κs a)
         → ent 𝓤 ((cₖ κs (cut_args m κs a p)).ensures (ghostₖ κs (cut_args m κs a p)) r (at_exit cut κs (cut_args m κs a p) ws)) ((c κs a).ensures g (Ho.made (named_lft 1 0 tt κs) (Pl.number p) r) (at_exit function κs a ws'))
 
-    module _ (𝓛 : Logic 𝓤) (finds_it : Finds) (fits_in : Fits-in) (says : Says) (𝓣 : Tables 𝓤 𝓛.H) (#search #cut : Name) (metₛ : Triple 𝓤 (𝓣.C #search) (Contracted 𝓛 search cₛ)) (metₖ : Triple 𝓤 (𝓣.C #cut) (Contracted 𝓛 cut cₖ))
+    module _ (𝓛 : Logic 𝓤) (finds_it : Finds) (fits_in : Fits-in) (says : Says) (𝓣 : Tables 𝓤 𝓛.H) (#search #cut : Callee) (metₛ : Triple 𝓤 (𝓣.C #search) (Contracted 𝓛 search cₛ)) (metₖ : Triple 𝓤 (𝓣.C #cut) (Contracted 𝓛 cut cₖ))
         (κs : Lfts 1) (qs : Shares 1) (a : Args (inner 1) κs Ps) (g : (c κs a).ghost) (are : Sound (inner 1) κs Ps a) where
       open 𝓛 use {H, A}
 
@@ -158,7 +158,7 @@ module _ (m : ℕ) (Vs : List Value) (Pl : Placed) (Ho : Holding) where
       vs = vals (inner 1) κs Ps a
 
       abbrev Toks : Item 𝓤
-      Toks = raw (toks 𝓤 A 1 κs qs)
+      Toks = raw (toks 𝓛 1 κs qs)
 
       abbrev End : Val → SProp 𝓤
       End = Post 𝓛 function c κs qs a g
@@ -169,16 +169,16 @@ module _ (m : ℕ) (Vs : List Value) (Pl : Placed) (Ho : Holding) where
       abbrev toₖ : Pl.value.row.Denot → (Contracted 𝓛 cut cₖ).Ghost
       toₖ p = ((κs, qs, tt, cut_args m κs a p, spelt (inner 1) κs Cs (cut_args m κs a p)), ghostₖ κs (cut_args m κs a p))
 
-      asked : (p : Pl.value.row.Denot) → φ κs a p → Is Pl.value.row p (Pl.value.val p ∷ []) → ent 𝓤 (sep 𝓤 (toks 𝓤 A 1 κs qs) (sem 𝓛 (Slices m κs a))) ((Contracted 𝓛 cut cₖ).pre (toₖ p))
+      asked : (p : Pl.value.row.Denot) → φ κs a p → Is Pl.value.row p (Pl.value.val p ∷ []) → ent 𝓤 (sep 𝓤 (toks 𝓛 1 κs qs) (sem 𝓛 (Slices m κs a))) ((Contracted 𝓛 cut cₖ).pre (toₖ p))
       asked p e is = qed 𝓛 (Toks ∷ ‵ (Slices m κs a) ∷ []) ∵ move ! (1 ∷ []) $ use1 𝓛 (‵ (Owns (inner 1) κs Cs (cut_args m κs a p))) (cut_owns 𝓛 κs m a p is) $ move ! (1 ∷ 0 ∷ []) $ join ! $ frame ! $ use0 𝓛 (raw ((cₖ κs (cut_args m κs a p)).requires (ghostₖ κs (cut_args m κs a p)))) (fits_in κs a p e) $ done !
 
       exits : (p : Pl.value.row.Denot) (r : Bor (List ℕ)) (ws : Lasts cut κs (cut_args m κs a p)) (ws' : Lasts function κs a) → φ κs a p → Is u8 (Pl.number p) (vint w8 (Pl.number p) ∷ [])
-          → ent 𝓤 (⋆ 𝓛 (Toks ∷ ‵ ((Slice κs).own r (shr_slice_vals r)) ∷ ‵ (lasts function κs a ws') ∷ raw ((cₖ κs (cut_args m κs a p)).ensures (ghostₖ κs (cut_args m κs a p)) r (at_exit cut κs (cut_args m κs a p) ws)) ∷ [])) (End (pair (Pl.number p) r))
+          → ent 𝓤 (⋆ 𝓛 (Toks ∷ ‵ ((Slice κs).own_val r (shr_slice_vals r)) ∷ ‵ (lasts function κs a ws') ∷ raw ((cₖ κs (cut_args m κs a p)).ensures (ghostₖ κs (cut_args m κs a p)) r (at_exit cut κs (cut_args m κs a p) ws)) ∷ [])) (End (pair (Pl.number p) r))
       exits p r ws ws' e is =
           let α = named_lft 1 0 tt κs in let n = Pl.number p in
-          qed 𝓛 (Toks ∷ ‵ ((Slice κs).own r (shr_slice_vals r)) ∷ ‵ (lasts function κs a ws') ∷ raw ((cₖ κs (cut_args m κs a p)).ensures (ghostₖ κs (cut_args m κs a p)) r (at_exit cut κs (cut_args m κs a p) ws)) ∷ []) ∵
+          qed 𝓛 (Toks ∷ ‵ ((Slice κs).own_val r (shr_slice_vals r)) ∷ ‵ (lasts function κs a ws') ∷ raw ((cₖ κs (cut_args m κs a p)).ensures (ghostₖ κs (cut_args m κs a p)) r (at_exit cut κs (cut_args m κs a p) ws)) ∷ []) ∵
           suffices ! _ (ends 𝓛 function c κs qs a g (Ho.made α n r) (pair n r) ws') $ frame ! $ nothing ! $ move ! (1 ∷ 0 ∷ []) $ fjoin ! $ owned ! u8 (Is u8) (uint_Makes 𝓛 w8) n _ is $ fjoin ! $
-          use1 𝓛 (‵ ((Ho.row α).own (Ho.made α n r) (pair n r ∷ []))) (Ho.shut 𝓛 α n r) $ frame ! $ frame ! $ use1 𝓛 (raw ((c κs a).ensures g (Ho.made α n r) (at_exit function κs a ws'))) (says κs a g p e r ws ws') $ done !
+          use1 𝓛 (‵ ((Ho.row α).own_val (Ho.made α n r) (pair n r ∷ []))) (Ho.shut 𝓛 α n r) $ frame ! $ frame ! $ use1 𝓛 (raw ((c κs a).ensures g (Ho.made α n r) (at_exit function κs a ws'))) (says κs a g p e r ws ws') $ done !
 
       walk : Sq 𝓛 (raw ((Contracted 𝓛 search cₛ).pre toₛ) ∷ ‵ (Slices m κs a) ∷ []) (allocs mir_locals (λ E. params' E vs (runs 𝓣.C 𝓣.Λ E (mir_body #search #cut) (at_ret E End))))
       walk =
@@ -193,7 +193,7 @@ module _ (m : ℕ) (Vs : List Value) (Pl : Placed) (Ho : Holding) where
           calls_at ! (fm_of 𝓤 H 𝓛.laws 𝓣) (Contracted 𝓛 cut cₖ) metₖ (toₖ p) (read_cut 𝓛 κs E 2 _ refl m a ls 1 at_p (λ τ l v c. c) p _ (and_then ! (load ! (finds 𝓛 at-l.0 (stop !)) (look ! 5 refl)) (no_more !))) (λ w.
           came_back 𝓛 cut cₖ κs qs (cut_args m κs a p) (ghostₖ κs (cut_args m κs a p)) ! tt w (λ r ws. move ! (2 ∷ []) $ drop ! $ move ! (1 ∷ []) $ peeks ! (Slice κs) (Is (Slice κs)) (shows 𝓛 (Slice κs)) r (w ∷ []) (λ is-r.
           let spelled = shr_slice_Tells (named 0) κs.0 u8 r _ is-r in let is_n = Pl.is_number p is in
-          land ! (finds 𝓛 at-l.1.0 (stop !)) (init ! 5 refl ((shr_slice_Lawful 𝓛 erased κs.0 u8).typed r _ is-r).0) $ rewrite ! 0 (λ (us : List Val). ‵ ((Slice κs).own r us)) spelled refl $ rewrite ! 5 (λ (u : Val). ‵ (fat full_share part_ty l₂ 0 u)) (ap only spelled) refl $
+          land ! (finds 𝓛 at-l.1.0 (stop !)) (init ! 5 refl ((shr_slice_Lawful 𝓛 erased κs.0 u8).typed r _ is-r).0) $ rewrite ! 0 (λ (us : List Val). ‵ ((Slice κs).own_val r us)) spelled refl $ rewrite ! 5 (λ (u : Val). ‵ (fat full_share part_ty l₂ 0 u)) (ap only spelled) refl $
           -- the struct: [_at; what the part owns; the tokens; what is ensured; last values; the parameters; _part; …; …; the result; …]
           move ! (7 ∷ []) $ assigns ! (agg ! (and_then ! (load ! (finds 𝓛 at-l.0 (fld ! Pl.at_first (stop !))) (Pl.read 𝓛 _ l₁ p)) (and_then ! (load ! (finds 𝓛 at-l.1.0 (stop !)) (look ! 6 refl)) (no_more !)))) (from ! (stop !))
           (init ! 9 refl (Ho.typed (Pl.number p) r (record { fits = is_n.1 }) ((shr_slice_Lawful 𝓛 (named 0) κs.0 u8).typed r _ (subst (Is (Slice κs) r) spelled is-r)).0.1)) $ returns ! (look ! 9 refl) $ forget ! 9 refl $
@@ -206,14 +206,14 @@ module _ (m : ℕ) (Vs : List Value) (Pl : Placed) (Ho : Holding) where
           use1 𝓛 (raw ((Contracted 𝓛 search cₛ).pre toₛ)) (id⊢ 𝓤 _) $ enters_as 𝓛 𝓣.C 𝓣.Λ f vs End f-locals f-body walk
 
   pub hands_part : {M : Type 1} {𝓤 : Ura M} (𝓛 : Logic 𝓤) (𝓜 : Model 𝓤 𝓛.H) (𝓡 : Running 𝓤 𝓛.H 𝓜) (partsₛ : Clauses-of 𝓤 search) (partsₖ : Clauses-of 𝓤 cut) (parts : Clauses-of 𝓤 function) →
-      let cₛ : Clauses 𝓤 search = partsₛ 𝓛 𝓜.mem 𝓡.run in let cₖ : Clauses 𝓤 cut = partsₖ 𝓛 𝓜.mem 𝓡.run in let c : Clauses 𝓤 function = parts 𝓛 𝓜.mem 𝓡.run in
+      let cₛ : Clauses 𝓤 search = partsₛ 𝓛 𝓜.mem 𝓡.returns in let cₖ : Clauses 𝓤 cut = partsₖ 𝓛 𝓜.mem 𝓡.returns in let c : Clauses 𝓤 function = parts 𝓛 𝓜.mem 𝓡.returns in
       (φ : (κs : Lfts 1) → Args (inner 1) κs Ps → Pl.value.row.Denot → Type 0) (ghostₛ : (κs : Lfts 1) (a : Args (inner 1) κs Ps) → (cₛ κs a).ghost) (ghostₖ : (κs : Lfts 1) (a : Args (inner 1) κs Cs) → (cₖ κs a).ghost)
       → Asks 𝓤 cₛ cₖ c φ ghostₛ ghostₖ → Finds 𝓤 cₛ cₖ c φ ghostₛ ghostₖ → Fits-in 𝓤 cₛ cₖ c φ ghostₛ ghostₖ → Says 𝓤 cₛ cₖ c φ ghostₛ ghostₖ
-      → (γ : Routines) (own : Name) (f : Fn) → Entry 𝓤 𝓛.H (tables 𝓤 𝓛.H 𝓜 𝓡 γ).C (tables 𝓤 𝓛.H 𝓜 𝓡 γ).Λ own f → (#search #cut : Name) → f.locals ≡ mir_locals → f.body ≡ mir_body #search #cut
+      → (γ : Routines) (own : Callee) (f : Fn) → Entry 𝓤 𝓛.H (tables 𝓤 𝓛.H 𝓜 𝓡 γ).C (tables 𝓤 𝓛.H 𝓜 𝓡 γ).Λ own f → (#search #cut : Callee) → f.locals ≡ mir_locals → f.body ≡ mir_body #search #cut
       → (rₛ : Routine) → γ #search ≡ rₛ → Triple 𝓤 (𝓡.run rₛ) (Contracted 𝓛 search cₛ) → (rₖ : Routine) → γ #cut ≡ rₖ → Triple 𝓤 (𝓡.run rₖ) (Contracted 𝓛 cut cₖ)
       → Triple 𝓤 ((tables 𝓤 𝓛.H 𝓜 𝓡 γ).C own) (Contracted 𝓛 function c)
   hands_part {𝓤 = 𝓤} 𝓛 𝓜 𝓡 partsₛ partsₖ parts φ ghostₛ ghostₖ asks finds_it fits_in says γ own f closed #search #cut f-locals f-body rₛ atₛ metₛ rₖ atₖ metₖ =
-      let cₛ : Clauses 𝓤 search = partsₛ 𝓛 𝓜.mem 𝓡.run in let cₖ : Clauses 𝓤 cut = partsₖ 𝓛 𝓜.mem 𝓡.run in let c : Clauses 𝓤 function = parts 𝓛 𝓜.mem 𝓡.run in
+      let cₛ : Clauses 𝓤 search = partsₛ 𝓛 𝓜.mem 𝓡.returns in let cₖ : Clauses 𝓤 cut = partsₖ 𝓛 𝓜.mem 𝓡.returns in let c : Clauses 𝓤 function = parts 𝓛 𝓜.mem 𝓡.returns in
       walked 𝓛 𝓜 𝓡 γ function c own f closed (λ κs. spells (inner 1) κs Ps) (λ κs. all_tell (inner 1) κs Ps) (λ κs qs bounds a g are.
       via 𝓤 (sep 𝓤 (on_entry 𝓛 function.signature κs qs a (spelt (inner 1) κs Ps a)) ((cₛ κs a).requires (ghostₛ κs a))) (mono_r 𝓤 (on_entry 𝓛 function.signature κs qs a (spelt (inner 1) κs Ps a)) (asks κs a g))
       (runs_it 𝓤 cₛ cₖ c φ ghostₛ ghostₖ 𝓛 finds_it fits_in says (machine 𝓛 𝓜 𝓡 γ) #search #cut (known 𝓛 𝓜 𝓡 γ search cₛ #search rₛ atₛ metₛ) (known 𝓛 𝓜 𝓡 γ cut cₖ #cut rₖ atₖ metₖ) κs qs a g are f f-locals f-body))

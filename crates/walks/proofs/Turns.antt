@@ -10,6 +10,7 @@ use lib.WfN.{lt-wf_rel}
 use mathlib.Core.List.{List}
 use prog.Wp.{after_turn}
 use Rattle.walks.proofs.Kit.{Ura, SProp, Tables, Env, Out, Wp, after_seq, after_block, at_return, Val, Item, Below, Code, skip, seq, assign, block, loop, cond, switch, exit, return, call}
+use mir.Syntax.{unreachable, call_v, lend_static}
 use types.Logic.{Logic}
 
 abbrev after : Code → Code
@@ -22,7 +23,10 @@ after (cond c a b) = skip
 after (switch c arms) = skip
 after (exit n) = skip
 after return = skip
+after unreachable = skip
 after (call f xs p) = skip
+after (call_v c ς xs p) = skip
+after (lend_static p τ c) = skip
 
 abbrev pub past : ℕ → Code → Code
 past zero b = b
