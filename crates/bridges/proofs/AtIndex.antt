@@ -27,8 +27,8 @@ module _ (t : Table) (size : ℕ) (few : t.count ≤ size) (n : BridgeNumber) wh
   there h = mod-eq_of_lt (omega arith)
 
   -- the bridge at the index is sound where the table is
-  pub index_sound_lem : Sound t → BridgeSound t.count n (bridge_at t (n.0 % size))
-  index_sound_lem h l = subst (λ (i : ℕ). bus_end (bridge_at t i).base (bridge_at t i).last_bus ≤ 2 ^ 64) (sym (there l)) (h.window_ends n.0 l)
+  pub index_sound : Sound t → BridgeSound t.count n (bridge_at t (n.0 % size))
+  index_sound h l = subst (λ (i : ℕ). bus_end (bridge_at t i).base (bridge_at t i).last_bus ≤ 2 ^ 64) (sym (there l)) (h.window_ends n.0 l)
 
 module _ (t : Table) (size : ℕ) (few : t.count ≤ size) (s : SessionNumber) (n : BridgeNumber) (o : Operation) where
   abbrev index : ℕ
@@ -37,9 +37,9 @@ module _ (t : Table) (size : ℕ) (few : t.count ≤ size) (s : SessionNumber) (
   refused : t.count ≤ n.0 → (i : ℕ) → number_at t.count s n (bridge_at t i) o ≡ 1
   refused h i = absent_first t.count s n (bridge_at t i) o (le-leb t.count n.0 h)
 
-  pub index_outcome_lem : outcome_at t.count s n (bridge_at t index) o ≡ (step t (on s n o)).outcome
+  pub index_outcome : outcome_at t.count s n (bridge_at t index) o ≡ (step t (on s n o)).outcome
   unfolding step
-  index_outcome_lem = elim (dec_lt n.0 t.count) [ yes h ↦ ap (λ (i : ℕ). outcome_at t.count s n (bridge_at t i) o) (there t size few n h) | no h ↦ out (omega arith) ]
+  index_outcome = elim (dec_lt n.0 t.count) [ yes h ↦ ap (λ (i : ℕ). outcome_at t.count s n (bridge_at t i) o) (there t size few n h) | no h ↦ out (omega arith) ]
     where
       out : t.count ≤ n.0 → outcome_at t.count s n (bridge_at t index) o ≡ outcome_at t.count s n (bridge_at t n.0) o
       out h =
@@ -57,8 +57,8 @@ module _ (t : Table) (size : ℕ) (few : t.count ≤ size) (s : SessionNumber) (
       out h = kept index h ∙ sym (kept n.0 h)
 
   -- the same where only what the bridge holds is stored
-  pub index_held_lem : (y : Bridge) → y ≡ bridge_after t.count s n (bridge_at t index) o → with_bridge t index (with_holding (bridge_at t index) (holding y)) ≡ (step t (on s n o)).table
-  index_held_lem y e =
+  pub index_held : (y : Bridge) → y ≡ bridge_after t.count s n (bridge_at t index) o → with_bridge t index (with_holding (bridge_at t index) (holding y)) ≡ (step t (on s n o)).table
+  index_held y e =
       ap (λ (x : Bridge). with_bridge t index (with_holding (bridge_at t index) (holding x))) e
       ∙ ap (with_bridge t index) (bridge_held (number_at t.count s n (bridge_at t index) o) (bridge_at t index) o) ∙ index_table
 
@@ -74,12 +74,12 @@ module _ (t : Table) (size : ℕ) (few : t.count ≤ size) (s : SessionNumber) (
 -- What the calls by value ensure, from what the call on the bridge at `one_bridge::index` ensures.
 module _ (t : Table) (sound : Sound t) (s : SessionNumber) (n : BridgeNumber) (i : ℕ) (here : i ≡ n.0 % max_rows) (o : Operation) where
   found : outcome_at t.count s n (bridge_at t i) o ≡ (step t (on s n o)).outcome
-  found = rw here (index_outcome_lem t max_rows sound.few s n o)
+  found = rw here (index_outcome t max_rows sound.few s n o)
 
   -- an operation that leaves what the bridge holds
   pub as_read : ((b : Bridge) → after b o ≡ holding b) → {x : Outcome} → x ≡ outcome_at t.count s n (bridge_at t i) o → (x ≡ (step t (on s n o)).outcome) × (t ≡ (step t (on s n o)).table)
   as_read keeps e = (e ∙ found, table_kept t max_rows sound.few s n o keeps)
 
   -- one whose bridge is stored
-  pub as_done_lem : {x : Outcome} {y : Bridge} → (x ≡ outcome_at t.count s n (bridge_at t i) o) × (y ≡ bridge_after t.count s n (bridge_at t i) o) → (x ≡ (step t (on s n o)).outcome) × (with_bridge t i y ≡ (step t (on s n o)).table)
-  as_done_lem e = (e.0 ∙ found, ap (with_bridge t i) e.1 ∙ rw here (index_table t max_rows sound.few s n o))
+  pub as_done : {x : Outcome} {y : Bridge} → (x ≡ outcome_at t.count s n (bridge_at t i) o) × (y ≡ bridge_after t.count s n (bridge_at t i) o) → (x ≡ (step t (on s n o)).outcome) × (with_bridge t i y ≡ (step t (on s n o)).table)
+  as_done e = (e.0 ∙ found, ap (with_bridge t i) e.1 ∙ rw here (index_table t max_rows sound.few s n o))

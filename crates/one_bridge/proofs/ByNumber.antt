@@ -57,8 +57,8 @@ module _ (bridges : ℕ) (s : SessionNumber) (n : BridgeNumber) (b : Bridge) whe
   pub no_bridge_lem : bridges ≤ n.0 → 1 ≡ first_of (first_two bridges s n b)
   no_bridge_lem h = given 1 (absent bridges n) ((2 if foreign s b) ∷ []) (le-leb _ _ h)
 
-  pub not_owner_lem : n.0 < bridges → (b.owner.0 ≡ s.0 → ⊥) → 2 ≡ first_of (first_two bridges s n b)
-  not_owner_lem h o = given 2 (foreign s b) [] (ap not (ne_eqb _ _ o)) ∙ passed 1 (absent bridges n) ((2 if foreign s b) ∷ []) (lt-leb _ _ h)
+  pub not_owner : n.0 < bridges → (b.owner.0 ≡ s.0 → ⊥) → 2 ≡ first_of (first_two bridges s n b)
+  not_owner h o = given 2 (foreign s b) [] (ap not (ne_eqb _ _ o)) ∙ passed 1 (absent bridges n) ((2 if foreign s b) ∷ []) (lt-leb _ _ h)
 
   pub owner : n.0 < bridges → b.owner.0 ≡ s.0 → 0 ≡ first_of (first_two bridges s n b)
   owner h o = passed 2 (foreign s b) [] (ap not (eq-eqb _ _ o)) ∙ passed 1 (absent bridges n) ((2 if foreign s b) ∷ []) (lt-leb _ _ h)
@@ -76,8 +76,8 @@ module _ (b : Bridge) (o : Operation) (k m : ℕ) (e : k ≡ m) where
       go zero n = absurd (n refl)
       go (suc j) n = refl
 
-  pub bridge_done_lem : k ≡ 0 → with_holding b (after b o) ≡ bridge_by m b o
-  bridge_done_lem z = ap (λ (j : ℕ). bridge_by j b o) (sym z ∙ e)
+  pub bridge_done : k ≡ 0 → with_holding b (after b o) ≡ bridge_by m b o
+  bridge_done z = ap (λ (j : ℕ). bridge_by j b o) (sym z ∙ e)
 
   pub bridge_kept : (k ≡ 0 → ⊥) → b ≡ bridge_by m b o
   bridge_kept n = go k n ∙ ap (λ (j : ℕ). bridge_by j b o) e

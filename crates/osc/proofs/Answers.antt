@@ -18,12 +18,12 @@ use Rattle.rules.proofs.Sets.{same_sub, within_sub}
 use Rattle.osc.specs.Granted.{granted_answer}
 
 -- three DWORDs written one after the other fill twelve bytes
-pub three_written_lem : (b : List ℕ) (x y z : ℕ) (b₁ b₂ b₃ : List ℕ) → length b ≡ 12
+pub three_written : (b : List ℕ) (x y z : ℕ) (b₁ b₂ b₃ : List ℕ) → length b ≡ 12
     → b₁ ≡ take 0 b ++ le32 x ++ drop 4 b
     → b₂ ≡ take 4 b₁ ++ le32 y ++ drop 8 b₁
     → b₃ ≡ take 8 b₂ ++ le32 z ++ drop 12 b₂
     → b₃ ≡ le32 x ++ le32 y ++ le32 z
-three_written_lem b x y z b₁ b₂ b₃ h e₁ e₂ e₃ = rw (e₃, e₂, e₁, rest)
+three_written b x y z b₁ b₂ b₃ h e₁ e₂ e₃ = rw (e₃, e₂, e₁, rest)
   where
     rest : drop 4 (drop 4 (drop 4 b)) ≡ []
     rest = drop_of_length-le (drop 4 (drop 4 b)) {i = 4} (simp length-drop (omega arith))

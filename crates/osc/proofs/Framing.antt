@@ -13,7 +13,7 @@ use Rattle.rules.proofs.Tests.{or_false, and-true}
 
 -- a call that refusal 3 does not meet
 pub record Framed (count : ℕ) (uuid caps answer : List ℕ) : Type 0 where
-  pub some_dwords_lem : (count ≡ 0 → ⊥)
+  pub some_dwords : (count ≡ 0 → ⊥)
   pub at_most_8 : count ≤ 8
   pub capabilities_long : length caps ≡ 4 * count
   pub answer_long : length answer ≡ 4 * count
@@ -26,7 +26,7 @@ framed count uuid caps answer e =
     let h = or_false _ (ltb 8 count) c.0 in
     let z = or_false (not (eqb (length uuid) 16)) (eqb count 0) h.0 in
     record {
-      some_dwords_lem = eqb-false count 0 z.1;
+      some_dwords = eqb-false count 0 z.1;
       at_most_8 = ltb-false 8 count h.1;
       capabilities_long = eqb-true (length caps) (4 * count) (not-false (eqb (length caps) (4 * count)) c.1);
       answer_long = eqb-true (length answer) (4 * count) (not-false (eqb (length answer) (4 * count)) a.1);
@@ -94,7 +94,7 @@ pub some_to_8 : (count : ℕ) (uuid caps answer : List ℕ) → framing_bad coun
     → (4 ≤ length answer) × (length answer ≤ 32) × (length answer % 4 ≡ 0)
 some_to_8 count uuid caps answer f =
     let h = framed count uuid caps answer f in
-    go count h.some_dwords_lem h.at_most_8 h.answer_long
+    go count h.some_dwords h.at_most_8 h.answer_long
   where
     go : (count : ℕ) → (count ≡ 0 → ⊥) → count ≤ 8 → length answer ≡ 4 * count → (4 ≤ length answer) × (length answer ≤ 32) × (length answer % 4 ≡ 0)
     go count n m e = (omega (arith, e, positive count n), omega (arith, e), omega (arith, e))
