@@ -13,7 +13,7 @@ use lib.ListN.{set}
 use Rattle.walks.proofs.Kit.{Ura, full_share, Ty, w64, ty_ref, named, mut, Fits, mem, pointee}
 use types.Logic.{Logic}
 use borrow.Table.Elements.{at_mul}
-use borrow.Struct.Behind.{look_at, put_at}
+use borrow.Struct.Behind.{look_at, put_at_lem}
 use Rattle.rules.specs.Limits.{max_rows}
 use Rattle.rules.specs.Tables.{no_bridge, bridge_at, with_bridge}
 use Rattle.rules.specs.declared.Table.{Table}
@@ -74,4 +74,4 @@ module _ {M : Type 1} {𝓤 : Ura M} (𝓛 : Logic 𝓤) (h : Table) (b o : ℕ)
   unfolding max_rows
   bridge_put i lt y =
       field-put 𝓛 full_share T.the_row max_rows 0 b o i lt B.the_row tt h h.bridges no_bridge (at_mul (o + 0) size i) y (with_bridge h i y)
-      (put_at 𝓛 full_share T.the_type T'.the_loose 0 0 refl refl (b, o) h (with_bridge h i y) ((T.struct).as_values h) (set h.bridges i y) refl refl)
+      (put_at_lem 𝓛 full_share T.the_type T'.the_loose 0 0 refl refl (b, o) h (with_bridge h i y) ((T.struct).as_values h) (set h.bridges i y) refl refl)

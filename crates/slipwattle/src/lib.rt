@@ -125,6 +125,7 @@ pub fn slipwattle_address(
 }
 
 // The bridges are searched where they stand; locate::seek looks at one.
+#[tactic(auto, unfolding(rules::specs::Limits::max_rows))]
 pub fn slipwattle_locate(t: &mut Table, s: SessionNumber, address: u64) -> Located
     requires { Sound t.old }
     ensures { (outcome result.number (located result.place) [] ≡ (step t.old (locate s address)).outcome)
@@ -140,11 +141,7 @@ pub fn slipwattle_locate(t: &mut Table, s: SessionNumber, address: u64) -> Locat
 }
 
 // The record type is u32, so that type 256 is refused and not taken for type 0.
-pub fn slipwattle_find_record<'a>(
-    slot: &'a [u8],
-    block: &'a [u8],
-    record_type: u32,
-) -> RecordAt
+pub fn slipwattle_find_record<'a>(slot: &'a [u8], block: &'a [u8], record_type: u32) -> RecordAt
     ensures { result ≡ record_at slot.now block.now record_type }
 {
     let found = hpx::search(slot, block, record_type);
@@ -165,12 +162,7 @@ pub fn slipwattle_find_record<'a>(
 }
 
 // Where the image lies in the ROM. Vendor, device and code type are u32, so that none is taken for a smaller number.
-pub fn slipwattle_find_image(
-    rom: &[u8],
-    vendor: u32,
-    device: u32,
-    code_type: u32,
-) -> FoundAt
+pub fn slipwattle_find_image(rom: &[u8], vendor: u32, device: u32, code_type: u32) -> FoundAt
     ensures { result ≡ find_image rom.now vendor device code_type }
 {
     rom::search(rom, vendor, device, code_type)
