@@ -11,6 +11,7 @@ use rules::{BridgeRow, Started};
 pub const LIST_ROWS: usize = rules::MAX_ROWS + 1;
 
 // How many of `count` rows an array of rows has.
+#[tactic(auto, unfolding(rules::specs::Limits::max_rows))]
 fn rows_in_array(count: usize) -> usize
     ensures { result ≡ min count (max_rows + 1) }
 {
@@ -21,9 +22,10 @@ fn rows_in_array(count: usize) -> usize
 }
 
 // Start with the first `count` rows of an array by value.
+#[tactic(auto, unfolding(rules::specs::Limits::max_rows))]
 pub fn start_array(mcfg: &[u8], rows: [BridgeRow; LIST_ROWS], count: usize) -> Started
-    ensures { (result.number ≡ start_number (record { mcfg = mcfg.entry.now; rows = take count rows }))
-        × (result.table ≡ start_table (record { mcfg = mcfg.entry.now; rows = take count rows })) }
+    ensures { (result.number ≡ start_number (record { mcfg = mcfg.now; rows = take count rows }))
+        × (result.table ≡ start_table (record { mcfg = mcfg.now; rows = take count rows })) }
 {
     let n = rows_in_array(count);
     slipwattle::slipwattle_start(mcfg, &rows[..n])
