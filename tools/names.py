@@ -1,7 +1,7 @@
 #!/usr/bin/env python3
 """Gives the repository's own definitions today's spelling, below crates/: words in snake case.
 
-Run at the top, after the toolchain's own script (docs/PORT.md names the commits); run again it changes nothing more. A word of the definitions that has a capital inside gets an
+Run once, at the top, after the toolchain's own script (docs/PORT.md names the commits). A word of the definitions that has a capital inside gets an
 underscore there (`rowSound`, `row_sound`), wherever it stands: definitions, clauses, proofs, comments. So does what had a dash, of the repository's own: fields of records, lemmas and the
 variables that they are stated of (`full-length`, `full_length`); where the new name was another thing's, it ends in `_lem`. Names in code, in strings, in numbers, of the library, and those
 that the check makes of code, as goals' names, keep theirs.
@@ -97,13 +97,21 @@ def lemmas_of(texts):
     return new
 
 
+def respelled(path, text, new):
+    if path.endswith(".antt"):
+        return WORD.sub(lambda m: word(m, new), text)
+    # of code, the clauses' words alone have capitals inside; byte and text literals stay
+    parts = re.split(r"""(b?"(?:[^"\\]|\\.)*"|b'(?:[^'\\]|\\.)')""", text)
+    return "".join(p if i % 2 else WORD.sub(lambda m: word(m, new), p) for i, p in enumerate(parts))
+
+
 def main():
-    texts = {}
+    old = {}
     for path in files():
         with open(path, encoding="utf-8") as f:
-            texts[path] = f.read()
+            old[path] = f.read()
     fields = {}
-    for path, text in texts.items():
+    for path, text in old.items():
         if "/specs/" in path:
             for name in fields_of(text):
                 fields[name] = name.replace("-", "_")
@@ -112,17 +120,14 @@ def main():
     # two claims have a definition's name
     fields["record-part"] = "record_part_lem"
     fields["image-part"] = "image_part_lem"
-    fields = lemmas_of(texts) | fields
-    for path, text in texts.items():
-        if path.endswith(".antt"):
-            new = WORD.sub(lambda m: word(m, fields), text)
-        else:
-            # of code, the clauses' words alone have capitals inside; byte and text literals stay
-            parts = re.split(r"""(b?"(?:[^"\\]|\\.)*"|b'(?:[^'\\]|\\.)')""", text)
-            new = "".join(p if i % 2 else WORD.sub(lambda m: word(m, fields), p) for i, p in enumerate(parts))
-        if new != text:
+    new = {path: respelled(path, text, fields) for path, text in old.items()}
+    # a lemma may not take a definition's new name, so lemmas come second
+    lemmas = lemmas_of(new)
+    for path, text in new.items():
+        text = respelled(path, text, lemmas)
+        if text != old[path]:
             with open(path, "w", encoding="utf-8") as f:
-                f.write(new)
+                f.write(text)
 
 
 if __name__ == "__main__":
