@@ -1,6 +1,6 @@
 // The calls of document 01 on a lent table, the record search, and of document 02 the image search (a) and the writer (g): what C and Rust link, through crates/slipwattle_c. Each call on a table works on one bridge where it stands: the call on the
 // bridge hands it back, and what it holds, all that a call changes, is stored where the number is 0; a refused call stores nothing in the table. Some bridge is read whatever the bridge number is
-// (one_bridge::index); the call on the bridge refuses a bridge that the table has not. The proofs of these walk the code by hand.
+// (one_bridge::index); the call on the bridge refuses a bridge that the table has not.
 #![tactic(auto)]
 
 ghost use Rattle.std.specs.Prelude.{◌≡◌, [], ◌∷◌};

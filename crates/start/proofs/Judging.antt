@@ -1,10 +1,11 @@
 -- Start's walk over the lent rows: what holds before the first row, is kept by each row, and gives start's answer where the walk ends.
 -- Assumes nothing.
-use Prim.Native.Nat.{ℕ, ◌+◌, ◌≤◌, ◌<◌}
+use Prim.Native.Nat.{ℕ, ◌+◌, ◌-◌, ◌≤◌, ◌<◌}
 use mathlib.Core.Path.{◌≡◌, refl, sym, ap, ap₂, ◌∙◌}
 use mathlib.Core.Logic.{◌⊎◌, inl, inr}
 use mathlib.Core.Bool.{Bool, true, false, cond}
 use mathlib.Core.List.{List}
+use native.Mathlib.Nat.{le_refl}
 use native.Mathlib.Omega.{arith}
 use lib.Dec.{eqb}
 use lib.ListN.{length, take, get_or, set, replicate, length-map}
@@ -26,6 +27,14 @@ use Rattle.start.proofs.Admission.{admissible, Listed, listed_none, listed_more,
 -- the array of a table with no bridges
 abbrev pub no_bridges : List Bridge
 no_bridges = replicate max_rows unused
+
+-- after each row fewer are left
+pub nearer : (n i m j : ℕ) → j ≡ cond (eqb m 0) (i + 1) n → i < n → n - j < n - i
+nearer n i m j e left = go (eqb m 0) e
+  where
+    go : (t : Bool) → j ≡ cond t (i + 1) n → n - j < n - i
+    go true f = omega arith
+    go false f = omega arith
 
 -- `first` is what is refused before a row is judged, n how many rows are then judged
 module _ (x : StartInput) (first n : ℕ) where
@@ -65,6 +74,18 @@ module _ (x : StartInput) (first n : ℕ) where
             inr (record { some_so_far = z; at_end = sym (is_n ∙ ap (λ (t : Bool). cond t (length x.rows) 0) e); refused = first_refuses x first is_first z; clear = λ _. refl })
 
     module _ (i number : ℕ) (l : List Bridge) (reached : Reached i number l) where
+      pub within_rows : i ≤ length x.rows
+      within_rows = go reached
+        where
+          -- n is the number of rows, or 0
+          upto : (t : Bool) → cond t (length x.rows) 0 ≤ length x.rows
+          upto true = le_refl _
+          upto false = omega arith
+
+          go : Reached i number l → i ≤ length x.rows
+          go (inl g) = g.listed.upto
+          go (inr s) = rw (s.at_end, is_n) (upto (eqb first 0))
+
       -- the next row is judged: its number m, and its bridge b
       module _ (left : i < n) where
         going : Going i number l
