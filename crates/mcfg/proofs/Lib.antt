@@ -2,3 +2,4 @@ pub mod Heads
 pub mod Entries
 pub mod Rising
 pub mod Header
+pub mod Turns

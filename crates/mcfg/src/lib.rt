@@ -110,6 +110,7 @@ fn apart(e: Entry, f: Entry) -> bool
 }
 
 // Every entry is sound.
+#[tactic(auto, using(crate::proofs::Turns::turns))]
 fn entries_sound(m: &[u8]) -> bool
     ensures { result ≡ every entry_sound (entries m.now) }
 {
@@ -124,6 +125,7 @@ fn entries_sound(m: &[u8]) -> bool
 }
 
 // An entry is apart from each from a byte to the end.
+#[tactic(auto, using(crate::proofs::Turns::turns))]
 fn apart_from_rest(m: &[u8], e: Entry, from: usize) -> bool
     requires from_in_bounds { from ≤ length m.now }
     requires e_value { entry_sound e ≡ true }
@@ -141,6 +143,7 @@ fn apart_from_rest(m: &[u8], e: Entry, from: usize) -> bool
 }
 
 // Each entry is apart from each later one.
+#[tactic(auto, using(crate::proofs::Turns::turns))]
 fn entries_apart(m: &[u8]) -> bool
     requires { every entry_sound (entries m.now) ≡ true }
     ensures { result ≡ (pairwise share_no_bus (entries m.now) && pairwise share_no_byte (entries m.now)) }
@@ -173,6 +176,7 @@ fn below(e: Entry, f: Entry) -> bool
 }
 
 // Each entry is below the next.
+#[tactic(auto, using(crate::proofs::Turns::turns))]
 fn entries_rising(m: &[u8]) -> bool
     requires { every entry_sound (entries m.now) ≡ true }
     ensures { result ≡ rising (entries m.now) }
@@ -218,6 +222,7 @@ pub struct Inside {
 }
 
 // The entry that a row lies inside.
+#[tactic(auto, using(crate::proofs::Turns::turns))]
 pub fn entry_of(m: &[u8], row: BridgeRow) -> Inside
     ensures { (result.found ≡ not (is_none (entry_of (entries m.now) row))) × (result.base ≡ base_of (entry_of (entries m.now) row)) }
 {
