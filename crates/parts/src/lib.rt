@@ -1,28 +1,44 @@
-// What a search of lent bytes gives: a part of them, or the empty part beside a refusal.
+// What a search of lent bytes gives: a part of them, or a refusal.
 #![tactic(auto)]
 
 ghost use Rattle.std.specs.Prelude.{◌≡◌, ◌+◌, ◌≤◌, length};
-ghost use Rattle.rules.specs.Parts.{refused, part, part_at};
+ghost use Rattle.rules.specs.Parts.{part, part_at};
+ghost use Rattle.parts.specs.Found.{placed, found_at};
 
+use codes::Refusal;
 use rules::FoundAt;
 
-// What is handed back beside a refusal number.
-pub fn refusal(number: u8) -> FoundAt
-    ensures { result ≡ refused number }
-{
-    FoundAt {
-        number,
-        start: 0,
-        size: 0,
-    }
+// Where a part lies: its first byte, and its length, header included.
+#[derive(Clone, Copy, Debug, PartialEq, Eq)]
+pub struct Part {
+    pub start: usize,
+    pub size: usize,
 }
 
 // The part of the bytes, where they lie.
-pub fn cut<'a>(b: &'a [u8], at: FoundAt) -> &'a [u8]
+pub fn cut<'a>(b: &'a [u8], at: Part) -> &'a [u8]
     requires { at.start + at.size ≤ length b.now }
-    ensures { (result.now ≡ part at b.now) × (result.ref_ptr ≡ part_at at b.entry.ref_ptr) }
+    ensures { (result.now ≡ part (placed at) b.now) × (result.ref_ptr ≡ part_at (placed at) b.entry.ref_ptr) }
 {
     let start = at.start;
     let end = at.start + at.size;
     &b[start..end]
+}
+
+// As it crosses to C: the empty part beside the number of a refusal.
+pub fn found_at(found: Result<Part, Refusal>) -> FoundAt
+    ensures { result ≡ found_at found }
+{
+    match found {
+        Ok(Part { start, size }) => FoundAt {
+            number: 0,
+            start,
+            size,
+        },
+        Err(refusal) => FoundAt {
+            number: u8::from(refusal),
+            start: 0,
+            size: 0,
+        },
+    }
 }
