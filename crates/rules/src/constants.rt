@@ -9,16 +9,7 @@ pub const MAX_BLOCK: usize = 4096;
 
 pub const MAX_ROM: usize = 16777216;
 
-// The kinds of specs/Start.
-pub const EXPRESS: u8 = 0;
-
-pub const CONVENTIONAL: u8 = 1;
-
-// The editions of specs/Editions, and their known bits.
-pub const EDITION_3_0: u8 = 0;
-
-pub const EDITION_3_3: u8 = 1;
-
+// The known bits of the editions of specs/Editions.
 pub const KNOWN_CONTROL_3_0: u32 = 0x1f;
 
 pub const KNOWN_CONTROL_3_3: u32 = 0x3ff;

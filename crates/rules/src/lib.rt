@@ -7,16 +7,17 @@ pub mod constants;
 pub const MAX_ROWS: usize = 64;
 
 #[repr(C)]
-#[derive(Clone, Copy)]
+#[derive(Clone, Copy, Debug, Default, PartialEq, Eq)]
 pub struct SessionNumber(pub u8);
 
 #[repr(C)]
-#[derive(Clone, Copy)]
+#[derive(Clone, Copy, Debug, Default, PartialEq, Eq)]
 pub struct BridgeNumber(pub u8);
 
 // A row of the starting list; its kind is 0, Express, or 1, conventional; its edition of the control field 0, the old one, or 1, 3.3.
+// Stays with numbers: C writes the rows, with any byte for the kind and the edition.
 #[repr(C)]
-#[derive(Clone, Copy)]
+#[derive(Clone, Copy, Debug, PartialEq, Eq)]
 pub struct BridgeRow {
     pub permitted: u32,
     pub segment: u16,
@@ -28,8 +29,9 @@ pub struct BridgeRow {
 }
 
 // What the table keeps of a host bridge.
+// Stays with the edition's number: the table lies in C's memory.
 #[repr(C)]
-#[derive(Clone, Copy)]
+#[derive(Clone, Copy, Debug, Default, PartialEq, Eq)]
 pub struct Bridge {
     pub base: u64,
     pub permitted: u32,
@@ -43,6 +45,7 @@ pub struct Bridge {
 }
 
 // Bridges 0 to count - 1 stand first; the rest of the array is unused.
+// Stays an array with a count: the table lies in C's memory, which is fixed; there is no heap.
 #[repr(C)]
 #[derive(Clone, Copy)]
 pub struct Table {
@@ -52,14 +55,14 @@ pub struct Table {
 
 // "What a bridge holds is its held and its supported bits in the table."
 #[repr(C)]
-#[derive(Clone, Copy)]
+#[derive(Clone, Copy, Debug, Default, PartialEq, Eq)]
 pub struct Holding {
     pub held: u32,
     pub supported: u32,
 }
 
 // An entry of the MCFG table: its base belongs to bus 0.
-#[derive(Clone, Copy)]
+#[derive(Clone, Copy, Debug, PartialEq, Eq)]
 pub struct Entry {
     pub base: u64,
     pub segment: u16,
@@ -69,7 +72,7 @@ pub struct Entry {
 
 // A place: "bridge, bus, device, function and offset".
 #[repr(C)]
-#[derive(Clone, Copy)]
+#[derive(Clone, Copy, Debug, Default, PartialEq, Eq)]
 pub struct Place {
     pub bridge: BridgeNumber,
     pub bus: u8,
@@ -79,7 +82,7 @@ pub struct Place {
 }
 
 // A field of a record block: where it starts, its tag (the record type) and the length of its value.
-#[derive(Clone, Copy)]
+#[derive(Clone, Copy, Debug, PartialEq, Eq)]
 pub struct Field {
     pub start: usize,
     pub tag: u8,
@@ -87,7 +90,7 @@ pub struct Field {
 }
 
 // An image of an expansion ROM: where it starts, where its PCI Data Structure does, and its length.
-#[derive(Clone, Copy)]
+#[derive(Clone, Copy, Debug, PartialEq, Eq)]
 pub struct Image {
     pub start: usize,
     pub structure: usize,
@@ -138,6 +141,7 @@ pub struct ExpressSetting {
 }
 
 // At most one record of each known type: any number but 0 says that it is present; the values of one that is not count for nothing.
+// Stays with flags: C hands the settings over.
 #[repr(C)]
 #[derive(Clone, Copy)]
 pub struct Settings {
@@ -150,6 +154,7 @@ pub struct Settings {
 }
 
 // What a search of lent bytes gives, the record search and the image search: its number, and where the part of them starts and its length, header included.
+// Stays a number with values beside it: C reads it. Inside, a search gives a `Result` (crates/parts).
 #[repr(C)]
 #[derive(Clone, Copy)]
 pub struct FoundAt {
@@ -159,6 +164,7 @@ pub struct FoundAt {
 }
 
 // ---- the answers of the public calls: the number, and what is handed back beside it
+// Each stays a number with values beside it: C reads it. Inside, the calls give a `Result` (crates/codes).
 
 // Start's: the table stands first, so that nothing but its bridges is copied when it is handed back.
 #[repr(C)]
@@ -191,6 +197,7 @@ pub struct Located {
 }
 
 // A search's, with the part of the deciding block or of the ROM, which is empty when refused.
+// Stays for the theorem on it, `found` in crates/parts/proofs/Handing; the searches give a `Result`.
 #[derive(Clone, Copy)]
 pub struct Found<'a> {
     pub number: u8,
