@@ -1,10 +1,11 @@
 // The MCFG table: whether it is sound, its entries, and the entry that a row of the starting list lies inside.
 #![tactic(auto)]
 
-ghost use Rattle.std.specs.Prelude.{◌≡◌, true, not, ◌&&◌, suc, ◌+◌, ◌*◌, ◌≤◌, length};
-ghost use Rattle.rules.specs.Lists.{every, pairwise, is_none};
+ghost use Rattle.std.specs.Prelude.{◌≡◌, true, ◌&&◌, suc, ◌+◌, ◌*◌, ◌≤◌, length};
+ghost use Rattle.rules.specs.Lists.{every, pairwise};
 ghost use Rattle.rules.specs.Mcfg.{entries, entry_at, bus_start, bus_end, entry_sound, share_no_bus, share_no_byte, mcfg_sound};
-ghost use Rattle.rules.specs.Start.{inside, entry_of, base_of};
+ghost use Rattle.rules.specs.Start.{inside, entry_of};
+ghost use Rattle.mcfg.specs.Found.{answer_of};
 ghost use Rattle.mcfg.specs.Rest.{header_sound, rest, apart, below, rising};
 
 use rules::constants::{BUS_BYTES, MAX_ENTRIES};
@@ -214,31 +215,18 @@ fn lies_inside(row: BridgeRow, e: Entry) -> bool
     (row.segment == e.segment) & (e.start_bus <= row.first_bus) & (row.last_bus <= e.end_bus)
 }
 
-// Whether a row lies inside an entry, and the base of that entry, else 0.
-#[derive(Clone, Copy)]
-pub struct Inside {
-    pub found: bool,
-    pub base: u64,
-}
-
-// The entry that a row lies inside.
+// The first entry that a row lies inside.
 #[tactic(auto, using(crate::proofs::Turns::turns))]
-pub fn entry_of(m: &[u8], row: BridgeRow) -> Inside
-    ensures { (result.found ≡ not (is_none (entry_of (entries m.now) row))) × (result.base ≡ base_of (entry_of (entries m.now) row)) }
+pub fn entry_of(m: &[u8], row: BridgeRow) -> Option<Entry>
+    ensures { result ≡ answer_of (entry_of (entries m.now) row) }
 {
     let mut at: usize = 44;
     while 16 + at <= m.len() {
         let e = entry_at(m, at);
         if lies_inside(row, e) {
-            return Inside {
-                found: true,
-                base: e.base,
-            };
+            return Some(e);
         }
         at = 16 + at;
     }
-    Inside {
-        found: false,
-        base: 0,
-    }
+    None
 }
