@@ -2,7 +2,7 @@
 use Prim.Native.Nat.{ℕ}
 use mathlib.Core.Path.{◌≡◌, refl, ap, ◌∙◌}
 use mathlib.Core.Bool.{Bool, true, false, cond, ◌&&◌}
-use borrow.Author.Tests.{eq-eqb, ne_eqb}
+use lib.Dec.{eqb}
 use lib.Bits.{bit_and, bit_or}
 use Rattle.rules.specs.Numbers.{bit, within, number}
 use Rattle.rules.specs.Granting.{needs_of, granted_by}
@@ -14,6 +14,8 @@ use Rattle.rules.proofs.Bits.{bit_and_lem}
 use Rattle.rules.proofs.Sets.{bit_number, within_or}
 use Rattle.rules.proofs.OnePass.{closed, by_masks}
 use Rattle.rules.proofs.Granting.{masks_30}
+use Rattle.codes.specs.Numbers.{edition_of}
+use Rattle.codes.specs.declared.Edition.TheVariants.{V3_0, V3_3}
 use Rattle.osc.specs.Needs.{needs_met, supports_met}
 
 -- ---- the bits whose needs are met, each set of needs tested once
@@ -71,10 +73,18 @@ granted_33 p h u r s m e f = by_masks controls33 closed33 p h u r 0x3FF (bit_and
 
 -- the edition decides
 module _ (b : Bridge) (w r g : ℕ) where
-  pub by_33 : b.edition ≡ 1 → g ≡ granted_by controls33 b.permitted b.held (bit_or b.supported (bit_and w 0x1FF)) r → g ≡ granted b w r
+  pub by_33 : V3_3 ≡ edition_of b.edition → g ≡ granted_by controls33 b.permitted b.held (bit_or b.supported (bit_and w 0x1FF)) r → g ≡ granted b w r
   unfolding granted control_bits known_support
-  by_33 e f = rw (eq-eqb b.edition 1 e) f
+  by_33 e f = go (eqb b.edition 1) refl e
+    where
+      go : (t : Bool) → eqb b.edition 1 ≡ t → V3_3 ≡ cond t V3_3 V3_0 → g ≡ granted b w r
+      go true p q = rw p f
+      go false p q = cc
 
-  pub by_30 : (b.edition ≡ 1 → ⊥) → ((u : ℕ) → g ≡ granted_by controls30 b.permitted b.held u r) → g ≡ granted b w r
+  pub by_30 : V3_0 ≡ edition_of b.edition → ((u : ℕ) → g ≡ granted_by controls30 b.permitted b.held u r) → g ≡ granted b w r
   unfolding granted control_bits
-  by_30 n f = rw (ne_eqb b.edition 1 n) (f (declared b w))
+  by_30 e f = go (eqb b.edition 1) refl e
+    where
+      go : (t : Bool) → eqb b.edition 1 ≡ t → V3_0 ≡ cond t V3_3 V3_0 → g ≡ granted b w r
+      go true p q = cc
+      go false p q = rw p (f (declared b w))

@@ -23,10 +23,20 @@ ghost use Rattle.rules.specs.Osc.{
   osc_after,
 };
 
+use codes::Edition;
 use rules::constants::{
-    EDITION_3_3, KNOWN_CONTROL_3_0, KNOWN_CONTROL_3_3, KNOWN_SUPPORT_3_0, KNOWN_SUPPORT_3_3,
+    KNOWN_CONTROL_3_0, KNOWN_CONTROL_3_3, KNOWN_SUPPORT_3_0, KNOWN_SUPPORT_3_3,
 };
 use rules::{Bridge, Holding};
+
+// An _OSC call as a session makes it, but for the bridge and the answer buffer.
+#[derive(Clone, Copy)]
+pub struct Request<'a> {
+    pub revision: u32,
+    pub count: u32,
+    pub uuid: &'a [u8],
+    pub caps: &'a [u8],
+}
 
 // The UUID as it stands in the buffer.
 const UUID: [u8; 16] = *b"\x5b\x4d\xdb\x33\xf7\x1f\x1c\x40\x96\x57\x74\x41\xc0\x3d\xd7\x66";
@@ -54,24 +64,6 @@ const UNSUPPORTED_3_3: u32 = 0x37f;
 
 // The flag in the status DWORD.
 const QUERY: u32 = 0x01;
-
-// Refusal 3.
-#[tactic(auto, unfolding(rules::specs::Osc::framing_bad))]
-pub fn framing_bad(count: u32, uuid: &[u8], caps: &[u8], answer: &[u8]) -> bool
-    ensures { result ≡ framing_bad count uuid.now caps.now answer.now }
-{
-    if uuid.len() != 16 {
-        return true;
-    }
-    if count == 0 {
-        return true;
-    }
-    if 8 < count {
-        return true;
-    }
-    let bytes = 4 * (count as usize);
-    (caps.len() != bytes) | (answer.len() != bytes)
-}
 
 // Whether the buffer is the UUID.
 fn is_uuid(uuid: &[u8]) -> bool
@@ -162,11 +154,13 @@ fn granted_3_3(permitted: u32, held: u32, declared: u32, requested: u32) -> u32
 pub fn granted_bits(b: Bridge, support: u32, requested: u32) -> u32
     ensures { result ≡ granted_of b support requested }
 {
-    if b.edition == EDITION_3_3 {
-        let declared = b.supported | (support & KNOWN_SUPPORT_3_3);
-        return granted_3_3(b.permitted, b.held, declared, requested);
+    match Edition::of_bridge(b.edition) {
+        Edition::V3_3 => {
+            let declared = b.supported | (support & KNOWN_SUPPORT_3_3);
+            granted_3_3(b.permitted, b.held, declared, requested)
+        }
+        Edition::V3_0 => granted_3_0(b.permitted, b.held, requested),
     }
-    granted_3_0(b.permitted, b.held, requested)
 }
 
 // The support bits that an edition knows.
@@ -174,10 +168,10 @@ pub fn granted_bits(b: Bridge, support: u32, requested: u32) -> u32
 fn known_support(edition: u8) -> u32
     ensures { result ≡ known_support edition }
 {
-    if edition == EDITION_3_3 {
-        return KNOWN_SUPPORT_3_3;
+    match Edition::of_bridge(edition) {
+        Edition::V3_3 => KNOWN_SUPPORT_3_3,
+        Edition::V3_0 => KNOWN_SUPPORT_3_0,
     }
-    KNOWN_SUPPORT_3_0
 }
 
 // Whether any requested bit is not granted, as a status. What is granted was requested, so that to compare the two is enough.
@@ -248,26 +242,39 @@ fn grant(b: Bridge, caps: &[u8], answer: &mut [u8]) -> Holding
     }
 }
 
-// An _OSC call that none of 1, 2 and 3 refuses: the answer buffer is filled; what the bridge holds after it is handed back.
-pub fn respond(
-    b: Bridge,
-    revision: u32,
-    count: u32,
-    uuid: &[u8],
-    caps: &[u8],
-    answer: &mut [u8],
-) -> Holding
-    requires { framing_bad count uuid.now caps.now answer.old ≡ false }
-    ensures { (answer.new ≡ osc_answer b revision count uuid.now caps.now)
-        × (result ≡ osc_after b revision count uuid.now caps.now) }
-{
-    let error = error_status(revision, count, uuid);
-    if error != 0 {
-        write_error(answer, error);
-        return Holding {
-            held: b.held,
-            supported: b.supported,
-        };
+impl Request<'_> {
+    // Refusal 3.
+    #[tactic(auto, unfolding(rules::specs::Osc::framing_bad))]
+    pub fn framing_bad(self, answer: &[u8]) -> bool
+        ensures { result ≡ framing_bad self.entry.count self.entry.uuid.now self.entry.caps.now answer.now }
+    {
+        if self.uuid.len() != 16 {
+            return true;
+        }
+        if self.count == 0 {
+            return true;
+        }
+        if 8 < self.count {
+            return true;
+        }
+        let bytes = 4 * (self.count as usize);
+        (self.caps.len() != bytes) | (answer.len() != bytes)
     }
-    grant(b, caps, answer)
+
+    // An _OSC call that none of 1, 2 and 3 refuses: the answer buffer is filled; what the bridge holds after it is handed back.
+    pub fn respond(self, b: Bridge, answer: &mut [u8]) -> Holding
+        requires { framing_bad self.count self.uuid.now self.caps.now answer.old ≡ false }
+        ensures { (answer.new ≡ osc_answer b self.entry.revision self.entry.count self.entry.uuid.now self.entry.caps.now)
+            × (result ≡ osc_after b self.entry.revision self.entry.count self.entry.uuid.now self.entry.caps.now) }
+    {
+        let error = error_status(self.revision, self.count, self.uuid);
+        if error != 0 {
+            write_error(answer, error);
+            return Holding {
+                held: b.held,
+                supported: b.supported,
+            };
+        }
+        grant(b, self.caps, answer)
+    }
 }
