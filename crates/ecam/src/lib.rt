@@ -1,4 +1,4 @@
-// ECAM configuration addresses of one host bridge: a place to its address and back. A place is asked for by u32 numbers: one that is too large is refused, never cut.
+// ECAM configuration addresses of one host bridge: a place to its address and back.
 #![tactic(auto)]
 
 ghost use Rattle.std.specs.Prelude.{◌≡◌, ◌%◌, true, not, ◌||◌, ◌==◌};
@@ -8,40 +8,52 @@ ghost use Rattle.rules.specs.Place.{address_of, place_bad, bus_outside, in_windo
 use rules::constants::{BUS_BYTES, DEVICE_BYTES, FUNCTION_BYTES};
 use rules::{Bridge, BridgeNumber, Place};
 
-// Whether the width is not 1, 2 or 4, or the offset no multiple of it. By a mask, since one test serves the three widths.
-fn misaligned(offset: u32, width: u32) -> bool
-    ensures { result ≡ not (width == 1 || width == 2 || width == 4) || not (offset % width == 0) }
-{
-    if (width == 1) | (width == 2) | (width == 4) {
-        return offset & (width - 1) != 0;
+// A place of a bridge, as a call asks for it: by u32 numbers, so that one that is too large is refused and never cut. The width is that of the access.
+#[derive(Clone, Copy)]
+pub struct Asked {
+    pub bus: u32,
+    pub device: u32,
+    pub function: u32,
+    pub offset: u32,
+    pub width: u32,
+}
+
+impl Asked {
+    // Whether the width is not 1, 2 or 4, or the offset no multiple of it. By a mask, since one test serves the three widths.
+    fn misaligned(self) -> bool
+        ensures { result ≡ not (self.width == 1 || self.width == 2 || self.width == 4) || not (self.offset % self.width == 0) }
+    {
+        match self.width {
+            1 | 2 | 4 => self.offset & (self.width - 1) != 0,
+            _ => true,
+        }
     }
-    true
-}
 
-// Refusal 5.
-pub fn place_bad(device: u32, function: u32, offset: u32, width: u32) -> bool
-    ensures { result ≡ place_bad device function offset width }
-{
-    (31 < device) | (7 < function) | (4095 < offset) | misaligned(offset, width)
-}
+    // Refusal 5.
+    pub fn place_bad(self) -> bool
+        ensures { result ≡ place_bad self.device self.function self.offset self.width }
+    {
+        (31 < self.device) | (7 < self.function) | (4095 < self.offset) | self.misaligned()
+    }
 
-// Refusal 4 of an address.
-pub fn bus_outside(b: Bridge, bus: u32) -> bool
-    ensures { result ≡ bus_outside b bus }
-{
-    (bus < (b.first_bus as u32)) | ((b.last_bus as u32) < bus)
-}
+    // Refusal 4 of an address.
+    pub fn bus_outside(self, b: Bridge) -> bool
+        ensures { result ≡ bus_outside b self.bus }
+    {
+        (self.bus < u32::from(b.first_bus)) | (u32::from(b.last_bus) < self.bus)
+    }
 
-// The address of a place that neither refuses, in a window that ends at 2^64 at most.
-pub fn address_of(b: Bridge, bus: u32, device: u32, function: u32, offset: u32) -> u64
-    requires { PlaceFits b bus device function offset }
-    ensures { result ≡ address_of b bus device function offset }
-{
-    b.base
-        + (bus as u64) * BUS_BYTES
-        + (device as u64) * DEVICE_BYTES
-        + (function as u64) * FUNCTION_BYTES
-        + (offset as u64)
+    // The address of a place that neither refuses, in a window that ends at 2^64 at most.
+    pub fn address_of(self, b: Bridge) -> u64
+        requires { PlaceFits b self.bus self.device self.function self.offset }
+        ensures { result ≡ address_of b self.bus self.device self.function self.offset }
+    {
+        b.base
+            + u64::from(self.bus) * BUS_BYTES
+            + u64::from(self.device) * DEVICE_BYTES
+            + u64::from(self.function) * FUNCTION_BYTES
+            + u64::from(self.offset)
+    }
 }
 
 // Whether an address lies in the window of the bridge's buses. Below the base the distance wraps and does not count; nothing is added to an address.
@@ -49,7 +61,7 @@ pub fn in_window(b: Bridge, address: u64) -> bool
     ensures { result ≡ in_window address b }
 {
     let bus = address.wrapping_sub(b.base) / BUS_BYTES;
-    (b.base <= address) & ((b.first_bus as u64) <= bus) & (bus <= (b.last_bus as u64))
+    (b.base <= address) & (u64::from(b.first_bus) <= bus) & (bus <= u64::from(b.last_bus))
 }
 
 // The place of an address in the window of bridge n.
