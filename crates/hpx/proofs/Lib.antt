@@ -1,4 +1,4 @@
 pub mod Decides
-pub mod Registers
+pub mod OneByOne
 pub mod Searches
 pub mod Sizes

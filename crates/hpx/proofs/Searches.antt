@@ -1,24 +1,25 @@
 -- What the record search gives lies inside the deciding block; a type 2 record has its eight pairs there.
 -- Assumes nothing.
 use Prim.Native.Nat.{ℕ, zero, suc, ◌+◌, ◌%◌, ◌≤◌}
-use mathlib.Core.Path.{◌≡◌, refl, sym, ap, ap₂, ◌∙◌}
+use mathlib.Core.Path.{◌≡◌, refl, sym, ap, subst, ◌∙◌}
 use mathlib.Core.Bool.{Bool, true, false, not, cond, ◌&&◌, ◌||◌, true≢false}
 use mathlib.Core.List.{List, [], ◌∷◌}
 use mathlib.Core.Option.{Option, none, some}
 use native.Mathlib.Omega.{arith}
 use lib.Dec.{eqb, leb, ltb}
-use lib.ListN.{length, replicate}
+use lib.ListN.{length}
 use borrow.Author.Tests.{eqb-true, le-ltb, not-false}
 use Rattle.rules.specs.Limits.{max_block}
 use Rattle.rules.specs.Lists.{every, first, is_none}
 use Rattle.rules.specs.Refusals.{first_of}
-use Rattle.rules.specs.Records.{field_at, fields_of, value, is_record, record_size, in_ranges, field_sound, sound_fields, block_sound, deciding, record_among, record_in, record_refusals, found_by, find_record, registers_bad, new_value, new_values}
+use Rattle.rules.specs.Records.{fields_of, value, is_record, record_size, in_ranges, field_sound, sound_fields, block_sound, deciding, record_among, record_in, record_refusals, found_by, find_record}
 use Rattle.rules.specs.declared.Field.{Field}
 use Rattle.rules.specs.declared.FoundAt.{FoundAt}
-use Rattle.rules.proofs.Tests.{and-true, and_l, and_r, and_off, or_false}
+use Rattle.rules.proofs.Tests.{and-true, and_l, and_r, and_off}
 use Rattle.rules.proofs.Refusals.{clear}
 use Rattle.rules.proofs.Records.{record_part_lem}
-use Rattle.hpx.specs.Answers.{values_at}
+use Rattle.parts.specs.declared.Part.{Part}
+use Rattle.parts.specs.Found.{placed}
 
 -- ---- the part
 
@@ -110,48 +111,14 @@ type_2_fits slot block e =
     go zero (some f) i h n b z = omega (arith, in_long l f b i)
     go (suc k) o i h n b z = absurd (omega arith)
 
--- ---- the register values
+-- ---- what the search of the code gives
 
-pub eight_numbers : (current : List ℕ) → registers_bad current ≡ false → length current ≡ 8
-eight_numbers current e = eqb-true (length current) 8 (not-false (eqb (length current) 8) (or_false _ _ (or_false _ _ e).0).0)
+module _ (slot block : List ℕ) where
+  -- a part that it gives lies inside the deciding block
+  pub inside : (type : ℕ) (p : Part) → placed p ≡ find_record slot block type → p.start + p.size ≤ length (deciding slot block)
+  inside type p e = subst (λ (q : FoundAt). q.start + q.size ≤ length (deciding slot block)) (sym e) (found_fits slot block type)
 
--- the new values use of a field only where it starts
-by_start : (aer : Bool) (l : List ℕ) (f g : Field) → f.start ≡ g.start → (k : ℕ) (current : List ℕ) → new_values aer l f k current ≡ new_values aer l g k current
-by_start aer l f g e k [] = refl
-by_start aer l f g e k (c ∷ current) =
-    ap₂ {B = List ℕ} (λ (x : ℕ) r. x ∷ r) (ap (λ (n : ℕ). new_value aer l (record { start = n; tag = 0; size = 0 }) k c) e) (by_start aer l f g e (suc k) current)
-
-refused_zeros : (aer : Bool) (l current : List ℕ) (k : ℕ) (o : Option Field) → (k ≡ 0 → ⊥) → replicate 8 0 ≡ values_at k aer l current o
-refused_zeros aer l current zero o n = absurd (n refl)
-refused_zeros aer l current (suc k) o n = refl
-
-found_values : (aer : Bool) (l current : List ℕ) (k : ℕ) (o : Option Field) → k ≡ 0 → is_none o ≡ false
-    → new_values aer l (field_at l (found_by k o).start) 0 current ≡ values_at k aer l current o
-found_values aer l current zero none z n = absurd (true≢false n)
-found_values aer l current zero (some f) z n = by_start aer l (field_at l f.start) f refl 0 current
-found_values aer l current (suc k) o z n = absurd (omega arith)
-
--- ---- what a search answered, and the block that decided, as the code has them
-
-module _ (slot block : List ℕ) (type : ℕ) (r : FoundAt) (e : r ≡ find_record slot block type) where
-  pub number_found : r.number ≡ first_of (record_refusals slot block type)
-  number_found = ap (λ (q : FoundAt). q.number) e ∙ number_is (first_of (record_refusals slot block type)) (record_in (deciding slot block) type)
-
-module _ (slot block : List ℕ) (r : FoundAt) (e : r ≡ find_record slot block 2) (aer : Bool) (current : List ℕ) where
-  pub values_refused : (r.number ≡ 0 → ⊥)
-      → replicate 8 0 ≡ values_at (first_of (record_refusals slot block 2)) aer (deciding slot block) current (record_in (deciding slot block) 2)
-  values_refused n =
-      refused_zeros aer (deciding slot block) current (first_of (record_refusals slot block 2)) (record_in (deciding slot block) 2)
-      (λ z. n (number_found slot block 2 r e ∙ z))
-
-  module _ (l : List ℕ) (d : l ≡ deciding slot block) (z : r.number ≡ 0) where
-    pub pairs_inside : 71 + r.start ≤ length l
-    pairs_inside = rw (e, d) (type_2_fits slot block (sym (ap (λ (q : FoundAt). q.number) e) ∙ z))
-
-    pub values_found : new_values aer l (field_at l r.start) 0 current
-        ≡ values_at (first_of (record_refusals slot block 2)) aer (deciding slot block) current (record_in (deciding slot block) 2)
-    values_found =
-        let none : first_of (record_refusals slot block 2) ≡ 0 = sym (number_found slot block 2 r e) ∙ z in
-        ap₂ (λ (m : List ℕ) (q : FoundAt). new_values aer m (field_at m q.start) 0 current) d e
-        ∙ found_values aer (deciding slot block) current (first_of (record_refusals slot block 2)) (record_in (deciding slot block) 2) none
-        (finds slot block 2 none).is_there
+  -- and one of type 2 has its eight pairs there
+  pub pairs_inside : (p : Part) → placed p ≡ find_record slot block 2 → 71 + p.start ≤ length (deciding slot block)
+  pairs_inside p e =
+      subst (λ (q : FoundAt). 71 + q.start ≤ length (deciding slot block)) (sym e) (type_2_fits slot block (sym (ap (λ (q : FoundAt). q.number) e)))

@@ -1,13 +1,16 @@
 // _HPX setting records: which block decides, the record search, the new register values.
 #![tactic(auto)]
 
-ghost use Rattle.std.specs.Prelude.{◌≡◌, false, ◌+◌, ◌<◌, ◌≤◌, length, get_or};
+ghost use Rattle.std.specs.Prelude.{◌≡◌, cond, ◌+◌, ◌<◌, ◌≤◌, length, get_or, replicate, IfOk};
 ghost use Rattle.rules.specs.Records.{field_at, deciding, record_in, record_refusals, find_record, deciding_at, registers_bad, and_or, sizes_kept, new_value, new_values};
 ghost use Rattle.rules.specs.Parts.{part, part_at};
 ghost use Rattle.rules.specs.Refusals.{first_of};
+ghost use Rattle.codes.specs.Numbers.{number, given};
+ghost use Rattle.parts.specs.Found.{found_at};
 ghost use Rattle.hpx.specs.Answers.{values_at};
 
-use rules::{Found, FoundAt, Values};
+use codes::Refusal;
+use parts::Part;
 
 // If the slot's block is not empty it alone decides.
 pub fn deciding<'a>(slot: &'a [u8], block: &'a [u8]) -> &'a [u8]
@@ -20,44 +23,38 @@ pub fn deciding<'a>(slot: &'a [u8], block: &'a [u8]) -> &'a [u8]
     slot
 }
 
-// The record search: its number, and where the record lies in the deciding block.
-pub fn search<'a>(slot: &'a [u8], block: &'a [u8], record_type: u32) -> FoundAt
-    ensures { result ≡ find_record slot.now block.now record_type }
+// The record search: where the record lies in the deciding block.
+pub fn search<'a>(slot: &'a [u8], block: &'a [u8], record_type: u32) -> Result<Part, Refusal>
+    ensures { found_at result ≡ find_record slot.now block.now record_type }
 {
     records::search_block(deciding(slot, block), record_type)
 }
 
-// The part of whichever block decided, where the record lies in it.
-fn record_part<'a>(slot: &'a [u8], block: &'a [u8], at: FoundAt) -> &'a [u8]
-    requires { at.start + at.size ≤ length (deciding slot.now block.now) }
-    ensures { (result.now ≡ part at (deciding slot.now block.now))
-        × (result.ref_ptr ≡ part_at at (deciding_at slot.now slot.entry.ref_ptr block.entry.ref_ptr)) }
+// The record search, in one pass over the block: the record, where it lies.
+pub fn find_record<'a>(
+    slot: &'a [u8],
+    block: &'a [u8],
+    record_type: u32,
+) -> Result<&'a [u8], Refusal>
+    ensures number { number result ≡ (find_record slot.now block.now record_type).number }
+    ensures part { IfOk result (λ found. (found.now ≡ part (find_record slot.now block.now record_type) (deciding slot.now block.now))
+        × (found.ref_ptr ≡ part_at (find_record slot.now block.now record_type)
+        (deciding_at slot.now slot.entry.ref_ptr block.entry.ref_ptr))) }
 {
-    parts::cut(deciding(slot, block), at)
+    let at = search(slot, block, record_type)?;
+    Ok(parts::cut(deciding(slot, block), at))
 }
 
-// The record search, in one pass over the block.
-pub fn find_record<'a>(slot: &'a [u8], block: &'a [u8], record_type: u32) -> Found<'a>
-    ensures { (result.number ≡ (find_record slot.now block.now record_type).number)
-        × (result.part.now ≡ part (find_record slot.now block.now record_type) (deciding slot.now block.now))
-        × (result.part.ref_ptr ≡ part_at (find_record slot.now block.now record_type)
-        (deciding_at slot.now slot.entry.ref_ptr block.entry.ref_ptr)) }
+// The register list, or refusal 10: not 8 numbers, or Device Control or Link Control above 65535.
+pub fn registers(current: &[u32]) -> Result<&[u32; 8], Refusal>
+    ensures number { number result ≡ cond (registers_bad current.now) 10 0 }
+    ensures same { IfOk result (λ eight. eight.now ≡ current.now) }
 {
-    let at = search(slot, block, record_type);
-    Found {
-        number: at.number,
-        part: record_part(slot, block, at),
+    let registers: &[u32; 8] = current.try_into().map_err(|_| Refusal::Registers)?;
+    if 65535 < registers[4] || 65535 < registers[5] {
+        return Err(Refusal::Registers);
     }
-}
-
-// Refusal 10: not 8 numbers, or Device Control or Link Control above 65535.
-pub fn registers_bad(current: &[u32]) -> bool
-    ensures { result ≡ registers_bad current.now }
-{
-    if current.len() != 8 {
-        return true;
-    }
-    (65535 < current[4]) | (65535 < current[5])
+    Ok(registers)
 }
 
 // The current value AND a mask, OR a mask.
@@ -75,8 +72,8 @@ fn sizes_kept(current: u32, computed: u32) -> u32
 }
 
 // The new value of register k by the record that starts at this byte of the block. Device Control and Link Control are 4 and 5.
-fn register(b: &[u8], start: usize, current: &[u32], k: usize, aer: bool) -> u32
-    requires { (length current.now ≡ 8) × (71 + start ≤ length b.now) × (k < 8) }
+fn register(b: &[u8], start: usize, current: &[u32; 8], k: usize, aer: bool) -> u32
+    requires { (71 + start ≤ length b.now) × (k < 8) }
     ensures { result ≡ new_value aer b.now (field_at b.now start) k (get_or current.now k 0) }
 {
     let value = current[k];
@@ -93,8 +90,8 @@ fn register(b: &[u8], start: usize, current: &[u32], k: usize, aer: bool) -> u32
 }
 
 // The eight new values of the record that starts at this byte of the block.
-pub fn new_values(b: &[u8], start: usize, current: &[u32], aer: bool) -> [u32; 8]
-    requires { (length current.now ≡ 8) × (71 + start ≤ length b.now) }
+pub fn new_values(b: &[u8], start: usize, current: &[u32; 8], aer: bool) -> [u32; 8]
+    requires { 71 + start ≤ length b.now }
     ensures { result ≡ new_values aer b.now (field_at b.now start) 0 current.now }
 {
     [
@@ -110,23 +107,18 @@ pub fn new_values(b: &[u8], start: usize, current: &[u32], aer: bool) -> [u32; 8
 }
 
 // 8, 9, else the new values.
-pub fn register_values<'a>(slot: &'a [u8], block: &'a [u8], current: &[u32], aer: bool) -> Values
-    requires { registers_bad current.now ≡ false }
-    ensures { (result.number ≡ first_of (record_refusals slot.now block.now 2))
-        × (result.values ≡ values_at (first_of (record_refusals slot.now block.now 2)) aer
+pub fn register_values<'a>(
+    slot: &'a [u8],
+    block: &'a [u8],
+    current: &[u32; 8],
+    aer: bool,
+) -> Result<[u32; 8], Refusal>
+    ensures number { number result ≡ first_of (record_refusals slot.now block.now 2) }
+    ensures values { given (replicate 8 0) result ≡ values_at (first_of (record_refusals slot.now block.now 2)) aer
         (deciding slot.now block.now) current.now
-        (record_in (deciding slot.now block.now) 2)) }
+        (record_in (deciding slot.now block.now) 2) }
 {
     let decided = deciding(slot, block);
-    let found = records::search_block(decided, 2);
-    if found.number != 0 {
-        return Values {
-            number: found.number,
-            values: [0; 8],
-        };
-    }
-    Values {
-        number: 0,
-        values: new_values(decided, found.start, current, aer),
-    }
+    let found = records::search_block(decided, 2)?;
+    Ok(new_values(decided, found.start, current, aer))
 }

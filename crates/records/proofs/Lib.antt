@@ -1,4 +1,4 @@
-pub mod Types
-pub mod Reading
 pub mod Passes
+pub mod Reading
+pub mod Types
 pub mod Walking

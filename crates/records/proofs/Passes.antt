@@ -1,13 +1,13 @@
 -- One pass over the fields, with what it has seen and found so far, gives what the rules say of the whole list.
 -- Assumes nothing.
-use Prim.Native.Nat.{ℕ, zero, suc}
+use Prim.Native.Nat.{ℕ, zero, suc, ◌+◌, ◌<◌}
 use mathlib.Core.Path.{◌≡◌, refl, sym, ap, ap₂, ◌∙◌}
-use mathlib.Core.Bool.{Bool, true, false, not, cond, ◌&&◌, ◌||◌}
+use mathlib.Core.Bool.{Bool, true, false, true≢false, not, cond, ◌&&◌, ◌||◌}
 use mathlib.Core.List.{List, [], ◌∷◌}
 use mathlib.Core.Option.{Option, none, some}
 use native.Mathlib.Omega.{arith}
 use lib.Dec.{eqb, leb}
-use borrow.Author.Tests.{leb-true, eqb-true, eq-eqb}
+use borrow.Author.Tests.{leb-true, eqb-true, eq-eqb, ne_eqb}
 use Rattle.rules.specs.Lists.{every, pairwise, first, is_none, prepend}
 use Rattle.rules.specs.Parts.{refused}
 use Rattle.rules.specs.Refusals.{◌if◌, first_of}
@@ -15,10 +15,41 @@ use Rattle.rules.specs.Records.{found_by}
 use Rattle.rules.specs.declared.Field.{Field}
 use Rattle.rules.specs.declared.FoundAt.{FoundAt}
 use Rattle.rules.proofs.Tests.{and-true, and_off}
-use Rattle.records.specs.Fields.{judged, none_seen, has, marked, choice}
-use Rattle.records.specs.declared.Judged.{Judged}
-use Rattle.records.specs.declared.Judged.TheVariants.{Skip, Record, Bad}
-use Rattle.records.specs.declared.Seen.{Seen}
+use Rattle.codes.specs.declared.Refusal.{Refusal}
+use Rattle.codes.specs.Numbers.{number_of}
+use Rattle.codes.specs.declared.Refusal.TheVariants.{RecordBlock, NoRecord}
+use Rattle.parts.specs.Found.{found_at}
+use Rattle.parts.specs.declared.Part.{Part}
+use Rattle.std.specs.Prelude.{Result, Ok, Err, ok_or, set, get_or, length}
+use Rattle.std.specs.Prelude.{Option as Maybe, Some, None}
+use Rattle.std.proofs.lemmas.List.{get_or-set_same, get_or-set_other, length-set}
+use Rattle.records.specs.Fields.{judged}
+
+-- ---- what the pass has seen and found
+
+-- no type has had its record
+abbrev pub none_seen : List Bool
+none_seen = false ∷ false ∷ false ∷ []
+
+-- the type has had its record
+abbrev pub has : List Bool → ℕ → Bool
+has s t = get_or s t false
+
+-- the type has its record now
+abbrev pub marked : List Bool → ℕ → List Bool
+marked s t = set s t true
+
+-- the record as a part of its block
+abbrev pub part_of : Field → Part
+part_of f = record { start = f.start; size = 3 + f.size }
+
+-- a record of the asked type is what the search gives; any other field leaves what it has
+abbrev pub choice : (type : ℕ) → Field → Maybe Part → Maybe Part
+choice type f found = cond (eqb f.tag type) (Some (part_of f)) found
+
+-- what the search gives of what it found
+abbrev pub kept : Maybe Part → FoundAt
+kept found = found_at (ok_or found NoRecord)
 
 -- ---- tests
 
@@ -36,49 +67,39 @@ not_or : (a b : Bool) → not (a || b) ≡ (not a && not b)
 not_or true b = refl
 not_or false b = refl
 
-no_three : (n : ℕ) → leb (suc (suc (suc n))) 2 ≡ true → ⊥
-no_three n e = omega (arith, leb-true (suc (suc (suc n))) 2 e)
-
 -- a type has had its record once it is marked, and any other type as before
-has_marked : (s : Seen) (t u : ℕ) → leb t 2 ≡ true → leb u 2 ≡ true → has (marked s t) u ≡ (eqb t u || has s u)
-has_marked s zero zero p q = refl
-has_marked s zero (suc zero) p q = refl
-has_marked s zero (suc (suc zero)) p q = refl
-has_marked s zero (suc (suc (suc u))) p q = absurd (no_three u q)
-has_marked s (suc zero) zero p q = refl
-has_marked s (suc zero) (suc zero) p q = refl
-has_marked s (suc zero) (suc (suc zero)) p q = refl
-has_marked s (suc zero) (suc (suc (suc u))) p q = absurd (no_three u q)
-has_marked s (suc (suc zero)) zero p q = refl
-has_marked s (suc (suc zero)) (suc zero) p q = refl
-has_marked s (suc (suc zero)) (suc (suc zero)) p q = refl
-has_marked s (suc (suc zero)) (suc (suc (suc u))) p q = absurd (no_three u q)
-has_marked s (suc (suc (suc t))) u p q = absurd (no_three t p)
+has_marked : (s : List Bool) (t u : ℕ) → t < length s → has (marked s t) u ≡ (eqb t u || has s u)
+has_marked s t u h = go (eqb t u) refl
+  where
+    go : (b : Bool) → eqb t u ≡ b → has (marked s t) u ≡ (b || has s u)
+    go true e = rw (← eqb-true t u e) (get_or-set_same s t true false h)
+    go false e = get_or-set_other s t u true false (λ i. absurd (true≢false (sym (eq-eqb t u (sym i)) ∙ e)))
 
 none_has : (t : ℕ) → has none_seen t ≡ false
 none_has zero = refl
 none_has (suc zero) = refl
-none_has (suc (suc t)) = refl
+none_has (suc (suc zero)) = refl
+none_has (suc (suc (suc t))) = refl
 
 -- ---- the pass
 
 -- what a judged field leads to: a refusal, the pass with the record, or the pass without it
-abbrev onward : Judged → (had : Bool) → (with_it without : FoundAt) → FoundAt
-onward Bad had with_it without = refused 8
-onward Skip had with_it without = without
-onward Record true with_it without = refused 8
-onward Record false with_it without = with_it
+abbrev onward : Result Bool Refusal → (had : Bool) → (with_it without : FoundAt) → FoundAt
+onward (Err r) had with_it without = refused (number_of r)
+onward (Ok false) had with_it without = without
+onward (Ok true) true with_it without = refused 8
+onward (Ok true) false with_it without = with_it
 
 -- over any two tests: a field is sound, a field is a record
 module _ (sound rec : Field → Bool) (type : ℕ) where
   -- what the pass over these fields gives
-  abbrev pass : Seen → FoundAt → List Field → FoundAt
-  pass s found [] = found
+  abbrev pass : List Bool → Maybe Part → List Field → FoundAt
+  pass s found [] = kept found
   pass s found (f ∷ r) =
       onward (judged (sound f) (rec f)) (has s f.tag) (pass (marked s f.tag) (choice type f found) r) (pass s found r)
 
   -- a walk that came to no end is refused
-  abbrev pub pass_all : Seen → FoundAt → Option (List Field) → FoundAt
+  abbrev pub pass_all : List Bool → Maybe Part → Option (List Field) → FoundAt
   pass_all s found none = refused 8
   pass_all s found (some r) = pass s found r
 
@@ -88,7 +109,7 @@ module _ (rec : Field → Bool) where
   apart f g = not (rec f && rec g && eqb f.tag g.tag)
 
   -- the field is no second record of a type
-  abbrev unseen : Seen → Field → Bool
+  abbrev unseen : List Bool → Field → Bool
   unseen s f = not (rec f && has s f.tag)
 
   -- the field is the asked record
@@ -101,50 +122,56 @@ module _ (rec : Field → Bool) where
   all_unseen (f ∷ r) = rw (none_has f.tag, and_off (rec f)) (all_unseen r)
 
 -- the record found among the fields left, else what was found before
-abbrev or_else : FoundAt → Option Field → FoundAt
-or_else found none = found
+abbrev or_else : Maybe Part → Option Field → FoundAt
+or_else found none = kept found
 or_else found (some f) = found_by 0 (some f)
+
+-- a field that breaks a rule gives 8
+unsound_8 : (a b : Bool) (r : Refusal) → Err r ≡ judged a b → number_of r ≡ 8
+unsound_8 true b r e = cc
+unsound_8 false b r e = let same : r ≡ RecordBlock = cc in rw same
 
 -- ---- the pass from a field on
 
-module _ (sound rec : Field → Bool) (type : ℕ) (s : Seen) (found : FoundAt) (f : Field) where
-  pub pass_skip : (o : Option (List Field)) → Skip ≡ judged (sound f) (rec f)
+module _ (sound rec : Field → Bool) (type : ℕ) (s : List Bool) (found : Maybe Part) (f : Field) where
+  pub pass_skip : (o : Option (List Field)) → Ok false ≡ judged (sound f) (rec f)
       → pass_all sound rec type s found (prepend f o) ≡ pass_all sound rec type s found o
   pass_skip none e = refl
   pass_skip (some r) e = rw (← e)
 
-  pub pass_record : (o : Option (List Field)) → Record ≡ judged (sound f) (rec f) → has s f.tag ≡ false
+  pub pass_record : (o : Option (List Field)) → Ok true ≡ judged (sound f) (rec f) → has s f.tag ≡ false
       → pass_all sound rec type s found (prepend f o) ≡ pass_all sound rec type (marked s f.tag) (choice type f found) o
   pass_record none e h = refl
   pass_record (some r) e h = rw (← e, h)
 
-  pub pass_twice : (o : Option (List Field)) → Record ≡ judged (sound f) (rec f) → has s f.tag ≡ true
+  pub pass_twice : (o : Option (List Field)) → Ok true ≡ judged (sound f) (rec f) → has s f.tag ≡ true
       → refused 8 ≡ pass_all sound rec type s found (prepend f o)
   pass_twice none e h = refl
   pass_twice (some r) e h = rw (← e, h)
 
-  pub pass_bad : (o : Option (List Field)) → Bad ≡ judged (sound f) (rec f) → refused 8 ≡ pass_all sound rec type s found (prepend f o)
-  pass_bad none e = refl
-  pass_bad (some r) e = rw (← e)
+  pub pass_bad : (o : Option (List Field)) (r : Refusal) → Err r ≡ judged (sound f) (rec f)
+      → refused (number_of r) ≡ pass_all sound rec type s found (prepend f o)
+  pass_bad none r e = ap refused (unsound_8 (sound f) (rec f) r e)
+  pass_bad (some l) r e = rw (← e)
 
 -- ---- the whole pass
 
 module _ (sound rec : Field → Bool) (type : ℕ) (small : (f : Field) → rec f ≡ true → leb f.tag 2 ≡ true) where
   -- after a record is marked, a field is unseen if it was, and is no record of the same type
-  one_marked : (s : Seen) (f g : Field) → rec f ≡ true
+  one_marked : (s : List Bool) (f g : Field) → 3 ≡ length s → rec f ≡ true
       → unseen rec (marked s f.tag) g ≡ (apart rec f g && unseen rec s g)
-  one_marked s f g p = rw p (go (rec g) refl)
+  one_marked s f g h p = rw p (go (rec g) refl)
     where
       go : (b : Bool) → rec g ≡ b
           → not (b && has (marked s f.tag) g.tag) ≡ (not (b && eqb f.tag g.tag) && not (b && has s g.tag))
       go false q = refl
-      go true q = rw (has_marked s f.tag g.tag (small f p) (small g q)) (not_or (eqb f.tag g.tag) (has s g.tag))
+      go true q = rw (has_marked s f.tag g.tag (omega (arith, leb-true f.tag 2 (small f p)))) (not_or (eqb f.tag g.tag) (has s g.tag))
 
-  all_marked : (s : Seen) (f : Field) → rec f ≡ true → (r : List Field)
+  all_marked : (s : List Bool) (f : Field) → 3 ≡ length s → rec f ≡ true → (r : List Field)
       → every (unseen rec (marked s f.tag)) r ≡ (every (apart rec f) r && every (unseen rec s) r)
-  all_marked s f p [] = refl
-  all_marked s f p (g ∷ r) =
-      ap₂ {B = Bool} (λ (x : Bool) y. x && y) (one_marked s f g p) (all_marked s f p r)
+  all_marked s f h p [] = refl
+  all_marked s f h p (g ∷ r) =
+      ap₂ {B = Bool} (λ (x : Bool) y. x && y) (one_marked s f g h p) (all_marked s f h p r)
       ∙ swap (apart rec f g) (unseen rec s g) (every (apart rec f) r) (every (unseen rec s) r)
 
   -- a field that is no record is apart from all
@@ -170,16 +197,16 @@ module _ (sound rec : Field → Bool) (type : ℕ) (small : (f : Field) → rec 
           cc
 
   -- what the rules say of these fields, after what was seen and found before them
-  abbrev whole : Seen → FoundAt → List Field → FoundAt
+  abbrev whole : List Bool → Maybe Part → List Field → FoundAt
   whole s found r =
       cond (every sound r && pairwise (apart rec) r && every (unseen rec s) r)
       (or_else found (first (asked rec type) r)) (refused 8)
 
-  pass_whole : (r : List Field) (s : Seen) (found : FoundAt) → pass sound rec type s found r ≡ whole s found r
-  pass_whole [] s found = refl
-  pass_whole (f ∷ r) s found =
-      go (sound f) (rec f) (has s f.tag) (eqb f.tag type) refl refl (pass_whole r s found)
-      (pass_whole r (marked s f.tag) (choice type f found))
+  pass_whole : (r : List Field) (s : List Bool) (found : Maybe Part) → 3 ≡ length s → pass sound rec type s found r ≡ whole s found r
+  pass_whole [] s found n = refl
+  pass_whole (f ∷ r) s found n =
+      go (sound f) (rec f) (has s f.tag) (eqb f.tag type) refl refl (pass_whole r s found n)
+      (pass_whole r (marked s f.tag) (choice type f found) (n ∙ sym (length-set s f.tag true)))
     where
       E : Bool
       E = every sound r
@@ -205,16 +232,16 @@ module _ (sound rec : Field → Bool) (type : ℕ) (small : (f : Field) → rec 
       go true true true k p q x y = rw (and_off (E && (N && P)))
       go true true false k p q x y =
           y
-          ∙ ap (λ (t : Bool). cond (E && P && t) (or_else (choice type f found) F) (refused 8)) (all_marked s f p r)
+          ∙ ap (λ (t : Bool). cond (E && P && t) (or_else (choice type f found) F) (refused 8)) (all_marked s f n p r)
           ∙ ap (λ (t : Bool). cond t (or_else (choice type f found) F) (refused 8)) (regroup E N P U)
           ∙ last k q
         where
-          part : FoundAt
-          part = found_by 0 (some f)
+          part : Maybe Part
+          part = Some (part_of f)
 
           -- the record found is the only one
           only : eqb f.tag type ≡ true → (n : Bool) → N ≡ n
-              → cond ((E && (n && P)) && U) (or_else part F) (refused 8) ≡ cond ((E && (n && P)) && U) part (refused 8)
+              → cond ((E && (n && P)) && U) (or_else part F) (refused 8) ≡ cond ((E && (n && P)) && U) (kept part) (refused 8)
           only i true e = rw (none_later f p i r e)
           only i false e = rw (and_off E)
 
@@ -226,13 +253,20 @@ module _ (sound rec : Field → Bool) (type : ℕ) (small : (f : Field) → rec 
 
   -- the answer of a whole pass, by the two refusals of the record search
   pub pass_answer : (r : List Field)
-      → pass sound rec type none_seen (refused 9) r
+      → pass sound rec type none_seen None r
       ≡ found_by (first_of ((8 if not (every sound r && pairwise (apart rec) r)) ∷ (9 if is_none (first (asked rec type) r)) ∷ []))
       (first (asked rec type) r)
-  pass_answer r = pass_whole r none_seen (refused 9) ∙ rw (all_unseen rec r) (go (every sound r && pairwise (apart rec) r) (first (asked rec type) r))
+  pass_answer r = pass_whole r none_seen None refl ∙ rw (all_unseen rec r) (go (every sound r && pairwise (apart rec) r) (first (asked rec type) r))
     where
       go : (t : Bool) (o : Option Field)
-          → cond (t && true) (or_else (refused 9) o) (refused 8) ≡ found_by (first_of ((8 if not t) ∷ (9 if is_none o) ∷ [])) o
+          → cond (t && true) (or_else None o) (refused 8) ≡ found_by (first_of ((8 if not t) ∷ (9 if is_none o) ∷ [])) o
       go true none = refl
       go true (some f) = refl
       go false o = refl
+
+-- what the code keeps of a record, by its type
+pub chosen : (type : ℕ) (f : Field) (found : Maybe Part) → f.tag ≡ type → Some (part_of f) ≡ choice type f found
+chosen type f found e = rw (eq-eqb f.tag type e)
+
+pub left_alone : (type : ℕ) (f : Field) (found : Maybe Part) → (f.tag ≡ type → ⊥) → found ≡ choice type f found
+left_alone type f found n = rw (ne_eqb f.tag type n)

@@ -5,31 +5,27 @@ ghost use Rattle.std.specs.Prelude.{◌≡◌, ◌&&◌, [], ◌+◌, ◌^◌, �
 ghost use Rattle.rules.specs.Limits.{max_block};
 ghost use Rattle.rules.specs.Records.{value, is_record, record_size, and_mask, or_mask, in_ranges, field_sound, find_record};
 ghost use Rattle.rules.specs.Writer.{numbers_from, pci_of, pci_x_of, express_of};
-ghost use Rattle.records.specs.Fields.{field_read, judged, has, marked, choice};
+ghost use Rattle.parts.specs.Found.{found_at};
+ghost use Rattle.records.specs.Fields.{field_read, judged};
 
+use codes::Refusal;
+use parts::Part;
 use rules::constants::MAX_BLOCK;
-use rules::{ExpressSetting, Field, FoundAt, Masks, PciSetting, PciXSetting};
+use rules::{ExpressSetting, Field, Masks, PciSetting, PciXSetting};
 
-// A field taken apart, or the end of the walk, which is refusal 8.
-#[derive(Clone, Copy)]
-pub enum FieldRead {
-    Whole(Field),
-    End,
-}
-
-// The field at a byte, all of it within the block.
-pub fn read_field(b: &[u8], at: usize) -> FieldRead
+// The field at a byte, if all of it lies within the block.
+pub fn read_field(b: &[u8], at: usize) -> Option<Field>
     requires { at ≤ length b.now }
     ensures { result ≡ field_read b.now at }
 {
     if b.len() - at < 3 {
-        return FieldRead::End;
+        return None;
     }
     let size = words::read16(b, 1 + at) as usize;
     if b.len() - at - 3 < size {
-        return FieldRead::End;
+        return None;
     }
-    FieldRead::Whole(Field {
+    Some(Field {
         start: at,
         tag: b[at],
         size,
@@ -117,131 +113,51 @@ fn record_sound(b: &[u8], f: Field) -> bool
     }
 }
 
-// What a field is: skipped, a sound revision 1 record, or a broken rule, which is refusal 8.
-#[derive(Clone, Copy)]
-pub enum Judged {
-    Skip,
-    Record,
-    Bad,
-}
-
-fn judge(b: &[u8], f: Field) -> Judged
+// Whether a field is a revision 1 record, or is skipped; refusal 8 where it breaks a rule.
+fn judge(b: &[u8], f: Field) -> Result<bool, Refusal>
     requires { 3 + f.size + f.start ≤ length b.now }
     ensures { result ≡ judged (field_sound b.now f) (is_record b.now f) }
 {
     if 2 < f.tag {
-        return Judged::Skip;
+        return Ok(false);
     }
-    if f.size < 4 {
-        return Judged::Bad;
-    }
-    if f.size % 4 != 0 {
-        return Judged::Bad;
+    if f.size < 4 || f.size % 4 != 0 {
+        return Err(Refusal::RecordBlock);
     }
     if words::read32(b, 3 + f.start) != 1 {
-        return Judged::Skip;
+        return Ok(false);
     }
-    if record_sound(b, f) {
-        return Judged::Record;
+    if !record_sound(b, f) {
+        return Err(Refusal::RecordBlock);
     }
-    Judged::Bad
-}
-
-// Which types have had their record.
-#[derive(Clone, Copy)]
-pub struct Seen {
-    pub type_0: bool,
-    pub type_1: bool,
-    pub type_2: bool,
-}
-
-// Whether a type has had its record.
-fn has_record(seen: Seen, tag: u8) -> bool
-    ensures { result ≡ has seen tag }
-{
-    match tag {
-        0 => seen.type_0,
-        1 => seen.type_1,
-        _ => seen.type_2,
-    }
-}
-
-// A type has its record.
-fn mark(seen: Seen, tag: u8) -> Seen
-    ensures { result ≡ marked seen tag }
-{
-    match tag {
-        0 => Seen {
-            type_0: true,
-            type_1: seen.type_1,
-            type_2: seen.type_2,
-        },
-        1 => Seen {
-            type_0: seen.type_0,
-            type_1: true,
-            type_2: seen.type_2,
-        },
-        _ => Seen {
-            type_0: seen.type_0,
-            type_1: seen.type_1,
-            type_2: true,
-        },
-    }
-}
-
-// A record of the asked type is what the search gives; any other leaves what it has.
-fn chosen(found: FoundAt, f: Field, record_type: u32) -> FoundAt
-    requires { 3 + f.size < 2 ^ 64 }
-    ensures { result ≡ choice record_type f found }
-{
-    if (f.tag as u32) == record_type {
-        return FoundAt {
-            number: 0,
-            start: f.start,
-            size: 3 + f.size,
-        };
-    }
-    found
-}
-
-// Whether a block is too long to be sound.
-#[tactic(auto, unfolding(rules::specs::Limits::max_block))]
-fn too_long(b: &[u8]) -> bool
-    ensures { result ≡ ltb max_block (length b.now) }
-{
-    MAX_BLOCK < b.len()
+    Ok(true)
 }
 
 // One pass over a block: sound or not, and where the asked record lies.
-pub fn search_block(b: &[u8], record_type: u32) -> FoundAt
-    ensures { result ≡ find_record [] b.now record_type }
+pub fn search_block(b: &[u8], record_type: u32) -> Result<Part, Refusal>
+    ensures { found_at result ≡ find_record [] b.now record_type }
 {
-    if too_long(b) {
-        return parts::refusal(8);
+    if MAX_BLOCK < b.len() {
+        return Err(Refusal::RecordBlock);
     }
     let mut at = 0;
-    let mut seen = Seen {
-        type_0: false,
-        type_1: false,
-        type_2: false,
-    };
-    let mut found = parts::refusal(9);
+    let mut seen = [false; 3];
+    let mut found = None;
     while at < b.len() {
-        let FieldRead::Whole(f) = read_field(b, at) else {
-            return parts::refusal(8);
-        };
-        match judge(b, f) {
-            Judged::Skip => {}
-            Judged::Record => {
-                if has_record(seen, f.tag) {
-                    return parts::refusal(8);
-                }
-                seen = mark(seen, f.tag);
-                found = chosen(found, f, record_type);
+        let field = read_field(b, at).ok_or(Refusal::RecordBlock)?;
+        if judge(b, field)? {
+            if seen[field.tag as usize] {
+                return Err(Refusal::RecordBlock);
             }
-            Judged::Bad => return parts::refusal(8),
+            seen[field.tag as usize] = true;
+            if u32::from(field.tag) == record_type {
+                found = Some(Part {
+                    start: field.start,
+                    size: 3 + field.size,
+                });
+            }
         }
-        at = 3 + f.size + at;
+        at = 3 + field.size + at;
     }
-    found
+    found.ok_or(Refusal::NoRecord)
 }
