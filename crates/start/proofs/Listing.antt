@@ -1,16 +1,19 @@
--- Tests over a list with one more element at its end, and over its front; lists mapped and padded.
+-- Tests over a list with one more element at its end, and over its front; lists padded.
 -- Assumes nothing.
-use Prim.Native.Nat.{ℕ, zero, suc, ◌<◌}
-use mathlib.Core.Path.{◌≡◌, refl, sym, ap, ◌∙◌}
-use mathlib.Core.Bool.{Bool, true, ◌&&◌, and-true, and_assoc}
-use mathlib.Core.List.{List, [], ◌∷◌, ◌++◌, map}
-use native.Mathlib.Omega.{arith}
-use lib.ListN.{length, take, drop, set, replicate, take-append-drop}
+use Rattle.std.proofs.Common.{◌≡◌, ℕ, zero, suc, ◌<◌, Bool, true, ◌&&◌, List, [], ◌∷◌, ◌++◌, length, take, drop, set, refl, sym, ap, ◌∙◌, arith}
+use Rattle.std.proofs.lemmas.List.{take-append-drop}
+use Rattle.std.specs.List.{list_all}
+use mathlib.Core.Bool.{and-true, and_assoc}
 use Rattle.rules.specs.Lists.{every, pairwise, padded}
 use Rattle.rules.proofs.Tests.{and_l, and_r, and_is}
 use Rattle.mcfg.proofs.Heads.{shuffle}
 
 module _ {A : Type 0} where
+  -- the test of the library
+  pub every_is : (p : A → Bool) (l : List A) → list_all p l ≡ every p l
+  every_is p [] = refl
+  every_is p (x ∷ l) = ap (λ (t : Bool). p x && t) (every_is p l)
+
   -- one element more, at the end
 
   pub every_snoc : (p : A → Bool) (l : List A) (x : A) → every p (l ++ x ∷ []) ≡ (every p l && p x)
@@ -26,10 +29,6 @@ module _ {A : Type 0} where
   padded_snoc d zero l x h = absurd (omega arith)
   padded_snoc d (suc n) [] x h = refl
   padded_snoc d (suc n) (y ∷ l) x h = ap (λ (k : List A). y ∷ k) (padded_snoc d n l x (omega arith))
-
-  pub padded_none : (d : A) (n : ℕ) → padded d n [] ≡ replicate n d
-  padded_none d zero = refl
-  padded_none d (suc n) = ap (λ (k : List A). d ∷ k) (padded_none d n)
 
   -- the front of a list that passes
 
@@ -48,8 +47,3 @@ module _ {A : Type 0} where
 
   pub pairwise_take : (p : A → A → Bool) (l : List A) (i : ℕ) → pairwise p l ≡ true → pairwise p (take i l) ≡ true
   pairwise_take p l i e = pairwise_front p (take i l) (drop i l) (ap (pairwise p) (take-append-drop i l) ∙ e)
-
-module _ {A B : Type 0} (f : A → B) where
-  pub map_snoc : (l : List A) (x : A) → map f (l ++ x ∷ []) ≡ map f l ++ f x ∷ []
-  map_snoc [] x = refl
-  map_snoc (y ∷ l) x = ap (λ (k : List B). f y ∷ k) (map_snoc l x)

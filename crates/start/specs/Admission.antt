@@ -1,15 +1,18 @@
 -- What start takes row by row, as its functions say it.
-use Rattle.std.specs.Prelude.{ℕ, ◌≡◌, Bool, not, ◌&&◌, ◌||◌, List, [], ◌∷◌, eqb, leb}
+use Rattle.std.specs.Prelude.{ℕ, ◌≡◌, Bool, cond, ◌&&◌, ◌||◌, List, [], eqb, leb, Result, Ok, Err}
 use Rattle.rules.specs.Limits.{max_rows, max_owner}
 use Rattle.rules.specs.Numbers.{within}
 use Rattle.rules.specs.Editions.{edition30, edition33}
-use Rattle.rules.specs.Refusals.{◌if◌, first_of}
 use Rattle.rules.specs.Mcfg.{mcfg_sound}
 use Rattle.rules.specs.Tables.{table_with}
-use Rattle.rules.specs.Start.{StartInput, express, conventional, permissible, start_number, start_table}
+use Rattle.rules.specs.Start.{StartInput, express, conventional, permissible, row_sound, bridge_of, table_of, start_number, start_table}
+use Rattle.rules.specs.declared.Bridge.{Bridge}
 use Rattle.rules.specs.declared.BridgeRow.{BridgeRow}
-use Rattle.start.specs.declared.Judged.{Judged}
-use Rattle.rules.specs.declared.Started.{Started}
+use Rattle.rules.specs.declared.Entry.{Entry}
+use Rattle.rules.specs.declared.Table.{Table}
+use Rattle.codes.specs.Numbers.{number}
+use Rattle.codes.specs.declared.Refusal.{Refusal}
+use Rattle.codes.specs.declared.Refusal.TheVariants.{Mcfg, Rows}
 
 -- `row_sound`, with the entry already looked for
 abbrev pub row_sound_if : (inside : Bool) → BridgeRow → Bool
@@ -18,14 +21,19 @@ row_sound_if inside r =
     && (eqb r.edition edition30 || eqb r.edition edition33)
     && within r.permitted (permissible r.kind r.edition)
 
--- what start refuses before it judges a row: 6, the MCFG table; 7, more rows than a table holds
-abbrev pub first_number : List ℕ → ℕ → ℕ
-first_number mcfg count = first_of ((6 if not (mcfg_sound mcfg)) ∷ (7 if not (leb count max_rows)) ∷ [])
+-- a row judged: its bridge, or 7 where it is not sound or shares a bus with a row before it
+abbrev pub admitted : List Entry → BridgeRow → (apart : Bool) → Result Bridge Refusal
+admitted es r apart = cond (row_sound es r && apart) (Ok (bridge_of es r)) (Err Rows)
 
--- rows judged, as start judges them: its number, and its table's bridges and count
-abbrev pub Judges : StartInput → Judged → Type 0
-Judges x j = (j.number ≡ start_number x) × (j.bridges ≡ (start_table x).bridges) × (j.count ≡ (start_table x).count)
+-- what start refuses before it judges a row: 6, the MCFG table is not sound; 7, more rows than a table holds
+abbrev pub first_refusal : List ℕ → ℕ → Result Unit Refusal
+first_refusal mcfg count = cond (mcfg_sound mcfg) (cond (leb count max_rows) (Ok tt) (Err Rows)) (Err Mcfg)
 
--- what start gives of rows judged
-abbrev pub started_with : Judged → Started
-started_with j = record { table = table_with j.bridges j.count; number = j.number }
+-- document 01, "The MCFG table and the starting list": of an array in which rows were judged, the table: so many bridges, or none where a row was refused
+abbrev pub settled : List Bridge → Result ℕ Refusal → Table
+settled bridges (Ok count) = table_with bridges count
+settled bridges (Err r) = table_of []
+
+-- rows judged, as start judges them: its number, and the table of the array that had no bridges
+abbrev pub Judges : StartInput → (judged : Result ℕ Refusal) → (before after : List Bridge) → Type 0
+Judges x judged before after = (number judged ≡ start_number x) × (before ≡ (table_of []).bridges → settled after judged ≡ start_table x)
