@@ -35,7 +35,10 @@ pub fn slipwattle_start(mcfg: &[u8], rows: &[BridgeRow]) -> Started
     ensures { (result.number ≡ start_number (record { mcfg = mcfg.now; rows = rows.now }))
         × (result.table ≡ start_table (record { mcfg = mcfg.now; rows = rows.now })) }
 {
-    start::assemble(lent_rows::judge(mcfg, rows))
+    let mut table = start::no_bridges();
+    let judged = lent_rows::judge(mcfg, rows, &mut table.bridges);
+    let number = start::settle(&mut table, judged);
+    Started { table, number }
 }
 
 // _OSC: the answer buffer is filled, or left as it was lent.
