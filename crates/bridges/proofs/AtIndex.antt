@@ -15,6 +15,12 @@ use Rattle.rules.specs.declared.BridgeNumber.{BridgeNumber}
 use Rattle.rules.specs.declared.SessionNumber.{SessionNumber}
 use Rattle.rules.specs.declared.Table.{Table}
 use Rattle.rules.proofs.Local.{absent_first, same_bridge}
+use Rattle.std.specs.Prelude.{Result}
+use Rattle.codes.specs.declared.Refusal.{Refusal}
+use Rattle.rules.specs.declared.Holding.{Holding}
+use Rattle.one_bridge.specs.Answers.{outcome_of, after as bridge_left, keeping}
+use Rattle.one_bridge.specs.declared.BridgeCall.{BridgeCall}
+use Rattle.bridges.specs.OnTable.{Steps, call_on, storing}
 
 -- a call changes nothing of a bridge but what it holds
 bridge_held : (k : ℕ) (b : Bridge) (o : Operation) → with_holding b (holding (bridge_by k b o)) ≡ bridge_by k b o
@@ -71,15 +77,18 @@ module _ (t : Table) (size : ℕ) (few : t.count ≤ size) (s : SessionNumber) (
       go zero = ap (with_holding (bridge_at t n.0)) (f (bridge_at t n.0))
       go (suc k) = refl
 
--- What the calls by value ensure, from what the call on the bridge at `one_bridge::index` ensures.
-module _ (t : Table) (sound : Sound t) (s : SessionNumber) (n : BridgeNumber) (i : ℕ) (here : i ≡ n.0 % max_rows) (o : Operation) where
-  found : outcome_at t.count s n (bridge_at t i) o ≡ (step t (on s n o)).outcome
-  found = rw here (index_outcome t max_rows sound.few s n o)
+-- What a call on the table does, from what `one_bridge`'s call on the bridge there ensures.
+module _ (t : Table) (sound : Sound t) (s : SessionNumber) (n : BridgeNumber) (o : Operation) {q : BridgeCall} (made : q ≡ call_on t s n) {x : Outcome} where
+  found : x ≡ outcome_of q o → x ≡ (step t (on s n o)).outcome
+  found e = e ∙ rw made (index_outcome t max_rows sound.few s n o)
 
   -- an operation that leaves what the bridge holds
-  pub as_read : ((b : Bridge) → after b o ≡ holding b) → {x : Outcome} → x ≡ outcome_at t.count s n (bridge_at t i) o → (x ≡ (step t (on s n o)).outcome) × (t ≡ (step t (on s n o)).table)
-  as_read keeps e = (e ∙ found, table_kept t max_rows sound.few s n o keeps)
+  pub as_read : ((b : Bridge) → after b o ≡ holding b) → x ≡ outcome_of q o → Steps t (on s n o) x t
+  as_read keeps e = (found e, table_kept t max_rows sound.few s n o keeps)
 
-  -- one whose bridge is stored
-  pub as_done : {x : Outcome} {y : Bridge} → (x ≡ outcome_at t.count s n (bridge_at t i) o) × (y ≡ bridge_after t.count s n (bridge_at t i) o) → (x ≡ (step t (on s n o)).outcome) × (with_bridge t i y ≡ (step t (on s n o)).table)
-  as_done e = (e.0 ∙ found, ap (with_bridge t i) e.1 ∙ rw here (index_table t max_rows sound.few s n o))
+  -- one of which what it gave is stored
+  pub as_stored : (r : Result Holding Refusal) → (x ≡ outcome_of q o) × (keeping q.bridge r ≡ bridge_left q o) → Steps t (on s n o) x (storing t n r)
+  as_stored r e = (
+    found e.0,
+    ap (with_bridge t (n.0 % max_rows)) (subst (λ (c : BridgeCall). keeping c.bridge r ≡ bridge_left c o) made e.1) ∙ index_table t max_rows sound.few s n o,
+  )

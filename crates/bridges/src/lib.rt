@@ -1,14 +1,14 @@
-// The calls on the whole table, by value: each is the call on one bridge, with the bridge stored back. The index stays inside the array; the call on the bridge refuses a bridge
-// that the table has not.
+// The calls on a lent table: each is the call on one bridge where it stands, and what that gave is stored in the bridge. The index stays inside the array whatever the bridge
+// number is; the call on the bridge refuses a number that the table has not.
 #![tactic(auto)]
 
-ghost use Rattle.std.specs.Prelude.{◌≡◌, [], ◌∷◌};
-ghost use Rattle.rules.specs.Start.{Sound};
+ghost use Rattle.std.specs.Prelude.{◌≡◌, [], ◌∷◌, replicate};
+ghost use Rattle.rules.specs.Place.{no_place};
+ghost use Rattle.rules.specs.Tables.{nothing_held};
+ghost use Rattle.rules.specs.Start.{Sound, BridgeSound};
 ghost use Rattle.rules.specs.Calls.{
-  osc,
   reset,
   report,
-  address,
   register_values,
   on,
   locate,
@@ -18,114 +18,103 @@ ghost use Rattle.rules.specs.Calls.{
   located,
   values,
   outcome,
-  step,
 };
+ghost use Rattle.codes.specs.Numbers.{number, given};
+ghost use Rattle.one_bridge.specs.Answers.{requested, asked_for};
+ghost use Rattle.bridges.specs.OnTable.{Steps, call_on, storing};
 
-use rules::{Addressed, BridgeNumber, Located, Reported, SessionNumber, Table, Values};
+use codes::Refusal;
+use ecam::Asked;
+use one_bridge::BridgeCall;
+use osc::Request;
+use rules::{Bridge, BridgeNumber, Holding, Place, SessionNumber, Table};
 
-// A number, and the table after the call.
-#[derive(Clone, Copy)]
-pub struct TableDone {
-    pub number: u8,
-    pub table: Table,
-}
-
-pub fn reset(t: Table, s: SessionNumber, n: BridgeNumber) -> TableDone
-    requires { Sound t }
-    ensures { (outcome result.number nothing [] ≡ (step t (on s n reset)).outcome) × (result.table ≡ (step t (on s n reset)).table) }
+// The call of session s on bridge n.
+fn call(t: &Table, s: SessionNumber, n: BridgeNumber) -> BridgeCall
+    requires { Sound t.now }
+    ensures made { result ≡ call_on t.now s n }
+    ensures sound { BridgeSound result.bridges result.number result.bridge }
 {
-    let i = one_bridge::index(n);
-    let done = one_bridge::reset(t.count, t.bridges[i], s, n);
-    let bridge = done.bridge;
-    let mut next = t;
-    next.bridges[i] = bridge;
-    TableDone {
-        number: done.number,
-        table: next,
+    BridgeCall {
+        bridges: t.count,
+        bridge: t.bridges[one_bridge::index(n)],
+        session: s,
+        number: n,
     }
 }
 
-pub fn report(t: Table, s: SessionNumber, n: BridgeNumber) -> Reported
-    requires { Sound t }
-    ensures { (outcome result.number (reported result.holding) [] ≡ (step t (on s n report)).outcome) × (t ≡ (step t (on s n report)).table) }
+// What a call gave is stored in the bridge.
+fn store(t: &mut Table, n: BridgeNumber, done: Result<Holding, Refusal>) -> Result<(), Refusal>
+    requires { Sound t.old }
+    ensures answered { number result ≡ number done }
+    ensures stored { t.new ≡ storing t.old n done }
 {
+    let Holding { held, supported } = done?;
     let i = one_bridge::index(n);
-    one_bridge::report(t.count, t.bridges[i], s, n)
+    t.bridges[i] = Bridge {
+        held,
+        supported,
+        ..t.bridges[i]
+    };
+    Ok(())
 }
 
+pub fn reset(t: &mut Table, s: SessionNumber, n: BridgeNumber) -> Result<(), Refusal>
+    requires { Sound t.old }
+    ensures { Steps t.old (on s n reset) (outcome (number result) nothing []) t.new }
+{
+    let done = call(t, s, n).reset();
+    store(t, n, done)
+}
+
+pub fn report(t: &Table, s: SessionNumber, n: BridgeNumber) -> Result<Holding, Refusal>
+    requires { Sound t.now }
+    ensures { Steps t.now (on s n report) (outcome (number result) (reported (given nothing_held result)) []) t.now }
+{
+    call(t, s, n).report()
+}
+
+// _OSC: the answer buffer is filled, or left as it was lent.
 pub fn osc(
-    t: Table,
+    t: &mut Table,
     s: SessionNumber,
     n: BridgeNumber,
-    revision: u32,
-    count: u32,
-    uuid: &[u8],
-    caps: &[u8],
+    request: Request,
     answer: &mut [u8],
-) -> TableDone
-    requires { Sound t }
-    ensures { (outcome result.number nothing (uuid.now ∷ caps.now ∷ answer.new ∷ [])
-        ≡ (step t (on s n (osc revision count uuid.now caps.now answer.old))).outcome)
-        × (result.table ≡ (step t (on s n (osc revision count uuid.now caps.now answer.old))).table) }
+) -> Result<(), Refusal>
+    requires { Sound t.old }
+    ensures { Steps t.old (on s n (requested request.entry answer.old)) (outcome (number result) nothing (request.entry.uuid.now ∷ request.entry.caps.now ∷ answer.new ∷ [])) t.new }
 {
-    let i = one_bridge::index(n);
-    let b = t.bridges[i];
-    let done = one_bridge::osc(t.count, b, s, n, revision, count, uuid, caps, answer);
-    let bridge = done.bridge;
-    let mut after = t;
-    after.bridges[i] = bridge;
-    TableDone {
-        number: done.number,
-        table: after,
-    }
+    let done = call(t, s, n).osc(request, answer);
+    store(t, n, done)
 }
 
-pub fn address(
-    t: Table,
-    s: SessionNumber,
-    n: BridgeNumber,
-    bus: u32,
-    device: u32,
-    function: u32,
-    offset: u32,
-    width: u32,
-) -> Addressed
-    requires { Sound t }
-    ensures { (outcome result.number (addressed result.address) [] ≡ (step t (on s n (address bus device function offset width))).outcome)
-        × (t ≡ (step t (on s n (address bus device function offset width))).table) }
+pub fn address(t: &Table, s: SessionNumber, n: BridgeNumber, asked: Asked) -> Result<u64, Refusal>
+    requires { Sound t.now }
+    ensures { Steps t.now (on s n (asked_for asked)) (outcome (number result) (addressed (given 0 result)) []) t.now }
 {
-    let i = one_bridge::index(n);
-    let b = t.bridges[i];
-    one_bridge::address(t.count, b, s, n, bus, device, function, offset, width)
+    call(t, s, n).address(asked)
 }
 
-pub fn register_values<'a>(
-    t: Table,
+// The place of an address in one of the session's bridges.
+#[tactic(auto, unfolding(rules::specs::Limits::max_rows))]
+pub fn locate(t: &Table, s: SessionNumber, address: u64) -> Result<Place, Refusal>
+    requires { Sound t.now }
+    ensures { Steps t.now (locate s address) (outcome (number result) (located (given no_place result)) []) t.now }
+{
+    locate::locate(&t.bridges[..t.count], s, address)
+}
+
+pub fn register_values(
+    t: &Table,
     s: SessionNumber,
     n: BridgeNumber,
-    slot: &'a [u8],
-    block: &'a [u8],
+    slot: &[u8],
+    block: &[u8],
     current: &[u32],
-) -> Values
-    requires { Sound t }
-    ensures { (outcome result.number (values result.values) (slot.now ∷ block.now ∷ current.now ∷ [])
-        ≡ (step t (on s n (register_values slot.now block.now current.now))).outcome)
-        × (t ≡ (step t (on s n (register_values slot.now block.now current.now))).table) }
+) -> Result<[u32; 8], Refusal>
+    requires { Sound t.now }
+    ensures { Steps t.now (on s n (register_values slot.now block.now current.now)) (outcome (number result) (values (given (replicate 8 0) result)) (slot.now ∷ block.now ∷ current.now ∷ [])) t.now }
 {
-    let i = one_bridge::index(n);
-    one_bridge::register_values(t.count, t.bridges[i], s, n, slot, block, current)
-}
-
-// The first bridge of the session whose window has the address; windows of one table share no byte.
-pub fn locate(t: Table, s: SessionNumber, address: u64) -> Located
-    requires { Sound t }
-    ensures { (outcome result.number (located result.place) [] ≡ (step t (locate s address)).outcome) × (t ≡ (step t (locate s address)).table) }
-{
-    let n = t.count;
-    let mut p = locate::begin();
-    while p.next < n {
-        let i = p.next;
-        p = locate::seek(p, n, t.bridges[i], s, address);
-    }
-    p.found
+    call(t, s, n).register_values(slot, block, current)
 }

@@ -1,53 +1,31 @@
-// Reading an address back, bridge by bridge: a loop of `seek` over the bridges of a table finds the place, whether the table is a value or lent.
+// Reading an address back: the search among the bridges of a table.
 #![tactic(auto)]
 
-ghost use Rattle.std.specs.Prelude.{◌≡◌, ◌≤◌, ◌<◌};
+ghost use Rattle.std.specs.Prelude.{◌≡◌, ◌≤◌, [], length, position};
 ghost use Rattle.rules.specs.Limits.{max_rows};
-ghost use Rattle.locate.specs.Turns.{at_first, after_bridge};
+ghost use Rattle.rules.specs.Place.{no_place, own_window};
+ghost use Rattle.rules.specs.Calls.{outcome, located};
+ghost use Rattle.codes.specs.Numbers.{number, given};
+ghost use Rattle.locate.specs.Back.{read_back};
 
-use rules::{Bridge, BridgeNumber, Located, Place, SessionNumber};
+use codes::Refusal;
+use rules::{Bridge, BridgeNumber, Place, SessionNumber};
 
-// The bridge to look at next, and what was found so far.
-#[derive(Clone, Copy)]
-pub struct Search {
-    pub next: usize,
-    pub found: Located,
-}
-
-// Before the first bridge: refusal 4 stands until a bridge is found.
-pub fn begin() -> Search
-    ensures { result ≡ at_first }
+// Where the first bridge of the session stands whose window has the address; windows of one table share no byte.
+fn find(bridges: &[Bridge], s: SessionNumber, address: u64) -> Option<usize>
+    ensures { result ≡ position (own_window s address) bridges.now }
 {
-    let bridge = BridgeNumber(0);
-    let place = Place {
-        bridge,
-        bus: 0,
-        device: 0,
-        function: 0,
-        offset: 0,
-    };
-    let found = Located { number: 4, place };
-    Search { next: 0, found }
+    bridges
+        .iter()
+        .position(|b| one_bridge::own_window(*b, s, address))
 }
 
-// One bridge looked at: the search ends at a bridge of the session whose window has the address.
+// The place of an address in one of the session's bridges.
 #[tactic(auto, unfolding(rules::specs::Limits::max_rows))]
-pub fn seek(p: Search, bridges: usize, bridge: Bridge, s: SessionNumber, address: u64) -> Search
-    requires { (p.next < bridges) × (bridges ≤ max_rows) }
-    ensures { result ≡ after_bridge p bridges bridge s address }
+pub fn locate(bridges: &[Bridge], s: SessionNumber, address: u64) -> Result<Place, Refusal>
+    requires { length bridges.now ≤ max_rows }
+    ensures { outcome (number result) (located (given no_place result)) [] ≡ read_back bridges.now s address }
 {
-    let i = p.next;
-    if one_bridge::own_window(bridge, s, address) {
-        let n = BridgeNumber(i as u8);
-        let found = Located {
-            number: 0,
-            place: ecam::place_of(n, bridge, address),
-        };
-        return Search {
-            next: bridges,
-            found,
-        };
-    }
-    let found = p.found;
-    Search { next: i + 1, found }
+    let i = find(bridges, s, address).ok_or(Refusal::NoSuchBus)?;
+    Ok(ecam::place_of(BridgeNumber(i as u8), bridges[i], address))
 }

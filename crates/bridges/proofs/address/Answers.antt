@@ -1,10 +1,7 @@
 use Rattle.std.proofs.Common.{refl}
-use Rattle.rules.specs.Calls.{address}
+use Rattle.one_bridge.specs.Answers.{asked_for}
 use Rattle.bridges.proofs.AtIndex.{as_read}
 use Rattle.bridges.proofs.address.Goals as goal
 
 pub returns : goal.returns
-returns c =
-    let a = c.args in
-    let o = address a.bus a.device a.function a.offset a.width in
-    as_read a.t c.requires a.s a.n _ c.index-i.ensures o (λ b. refl) c.address.ensures
+returns c = as_read c.args.t.now c.requires c.args.s c.args.n (asked_for c.args.asked) c.call.ensures.made (λ b. refl) c.address.ensures

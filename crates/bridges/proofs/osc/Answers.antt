@@ -1,9 +1,8 @@
-use Rattle.rules.specs.Calls.{osc}
-use Rattle.bridges.proofs.AtIndex.{as_done}
+use Rattle.one_bridge.specs.Answers.{requested}
+use Rattle.bridges.proofs.AtIndex.{as_stored}
 use Rattle.bridges.proofs.osc.Goals as goal
 
 pub returns : goal.returns
 returns c =
-    let a = c.args in
-    let o = osc a.revision a.count a.uuid.now a.caps.now a.answer.now in
-    as_done a.t c.requires a.s a.n _ c.index-i.ensures o c.osc-done.ensures
+    rw (c.store.ensures.answered, c.store.ensures.stored)
+    (as_stored c.args.t.now c.requires c.args.s c.args.n (requested c.args.request c.args.answer.now) c.call.ensures.made c.osc-done.result c.osc-done.ensures)

@@ -4,7 +4,4 @@ use Rattle.bridges.proofs.AtIndex.{as_read}
 use Rattle.bridges.proofs.register_values.Goals as goal
 
 pub returns : goal.returns
-returns c =
-    let a = c.args in
-    let o = register_values a.slot.now a.block.now a.current.now in
-    as_read a.t c.requires a.s a.n _ c.index-i.ensures o (λ b. refl) c.register_values.ensures
+returns c = as_read c.args.t.now c.requires c.args.s c.args.n (register_values c.args.slot.now c.args.block.now c.args.current.now) c.call.ensures.made (λ b. refl) c.register_values.ensures

@@ -4,4 +4,4 @@ use Rattle.bridges.proofs.AtIndex.{as_read}
 use Rattle.bridges.proofs.report.Goals as goal
 
 pub returns : goal.returns
-returns c = as_read c.args.t c.requires c.args.s c.args.n _ c.index-i.ensures report (λ b. refl) c.report.ensures
+returns c = as_read c.args.t.now c.requires c.args.s c.args.n report c.call.ensures.made (λ b. refl) c.report.ensures

@@ -1,6 +1,8 @@
 use Rattle.rules.specs.Calls.{reset}
-use Rattle.bridges.proofs.AtIndex.{as_done}
+use Rattle.bridges.proofs.AtIndex.{as_stored}
 use Rattle.bridges.proofs.reset.Goals as goal
 
 pub returns : goal.returns
-returns c = as_done c.args.t c.requires c.args.s c.args.n _ c.index-i.ensures reset c.reset-done.ensures
+returns c =
+    rw (c.store.ensures.answered, c.store.ensures.stored)
+    (as_stored c.args.t.now c.requires c.args.s c.args.n reset c.call.ensures.made c.reset-done.result c.reset-done.ensures)
