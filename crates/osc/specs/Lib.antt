@@ -1,2 +1,3 @@
-pub mod Granted
+pub mod Capabilities
 pub mod Needs
+pub mod Statuses

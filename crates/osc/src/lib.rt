@@ -1,25 +1,24 @@
 // _OSC: framing, the granting rule by masks, the answer buffer, what a taking call adds.
 #![tactic(auto)]
 
-ghost use Rattle.std.specs.Prelude.{◌≡◌, true, false, cond, ◌++◌, ℕ, ◌-◌, ◌%◌, ◌≤◌, length, replicate};
-ghost use Rattle.osc.specs.Granted.{granted_answer};
-ghost use Rattle.osc.specs.Needs.{needs_met, supports_met};
-ghost use Rattle.rules.specs.Numbers.{le32, same_bytes, within};
+ghost use Rattle.std.specs.Prelude.{◌≡◌, true, false, cond, ◌++◌, ℕ, ◌*◌, ◌-◌, ◌%◌, ◌≤◌, length, replicate, MatchResult};
+ghost use Rattle.codes.specs.Numbers.{edition_number};
+ghost use Rattle.osc.specs.Capabilities.{dwords_of, bytes_of, answered, after};
+ghost use Rattle.osc.specs.Needs.{controls, needs_met, supports_met};
+ghost use Rattle.osc.specs.Statuses.{status_number};
+ghost use Rattle.rules.specs.Numbers.{le32, same_bytes, bit, within};
 ghost use Rattle.rules.specs.Tables.{holding};
 ghost use Rattle.rules.specs.Granting.{granted_by};
-ghost use Rattle.rules.specs.Editions.{controls30, controls33, known_support};
+ghost use Rattle.rules.specs.Editions.{known_control, known_support};
 ghost use Rattle.rules.specs.Osc.{
+  declared,
   granted as granted_of,
   grant_status,
   uuid_bytes,
   framing_bad,
   recognised,
   error_status,
-  query,
-  support as support_of,
-  control,
   osc_answer,
-  joined,
   osc_after,
 };
 
@@ -28,15 +27,6 @@ use rules::constants::{
     KNOWN_CONTROL_3_0, KNOWN_CONTROL_3_3, KNOWN_SUPPORT_3_0, KNOWN_SUPPORT_3_3,
 };
 use rules::{Bridge, Holding};
-
-// An _OSC call as a session makes it, but for the bridge and the answer buffer.
-#[derive(Clone, Copy)]
-pub struct Request<'a> {
-    pub revision: u32,
-    pub count: u32,
-    pub uuid: &'a [u8],
-    pub caps: &'a [u8],
-}
 
 // The UUID as it stands in the buffer.
 const UUID: [u8; 16] = *b"\x5b\x4d\xdb\x33\xf7\x1f\x1c\x40\x96\x57\x74\x41\xc0\x3d\xd7\x66";
@@ -65,36 +55,64 @@ const UNSUPPORTED_3_3: u32 = 0x37f;
 // The flag in the status DWORD.
 const QUERY: u32 = 0x01;
 
-// Whether the buffer is the UUID.
-fn is_uuid(uuid: &[u8]) -> bool
-    ensures { result ≡ same_bytes uuid.now uuid_bytes }
-{
-    words::same(uuid, &UUID)
+// The status of a call with requested bits that are not granted.
+const MASKED: u32 = 0x10;
+
+// An _OSC call as a session makes it, but for the bridge and the answer buffer.
+#[derive(Clone, Copy)]
+pub struct Request<'a> {
+    pub revision: u32,
+    pub count: u32,
+    pub uuid: &'a [u8],
+    pub caps: &'a [u8],
 }
 
-// 0 where the UUID, the revision and the Count are right, else the error status.
-#[tactic(auto, unfolding(rules::specs::Osc::recognised))]
-fn error_status(revision: u32, count: u32, uuid: &[u8]) -> u32
-    ensures { result ≡ cond (recognised revision count uuid.now) 0 (error_status revision uuid.now) }
-{
-    if is_uuid(uuid) {
-        if revision != 1 {
-            return 0x08;
-        }
-        if count != 3 {
-            return 0x02;
-        }
-        return 0;
+// What a framed call that is not recognised has wrong, by the status that answers it.
+#[derive(Clone, Copy)]
+enum ErrorStatus {
+    Count = 0x02,
+    Uuid = 0x04,
+    Revision = 0x08,
+}
+
+impl From<ErrorStatus> for u32 {
+    ghost from_gives = { λ status n. n ≡ status_number status };
+
+    fn from(status: ErrorStatus) -> u32 {
+        status as u32
     }
-    0x04
 }
 
-// Whether the query flag is set.
-fn is_query(caps: &[u8]) -> bool
-    requires { 4 ≤ length caps.now }
-    ensures { result ≡ query caps.now }
+// The three DWORDs of a recognised call, as they come and as they are answered.
+#[derive(Clone, Copy)]
+struct Capabilities {
+    status: u32,
+    support: u32,
+    control: u32,
+}
+
+// ---- the granting rule
+
+// The control bits that an edition knows.
+#[tactic(auto, unfolding(rules::specs::Editions::known_control, rules::specs::Editions::control_bits))]
+fn known_control(edition: Edition) -> u32
+    ensures { result ≡ known_control (edition_number edition) }
 {
-    words::read32(caps, 0) & QUERY != 0
+    match edition {
+        Edition::V3_0 => KNOWN_CONTROL_3_0,
+        Edition::V3_3 => KNOWN_CONTROL_3_3,
+    }
+}
+
+// The support bits that an edition knows.
+#[tactic(auto, unfolding(rules::specs::Editions::known_support))]
+fn known_support(edition: Edition) -> u32
+    ensures { result ≡ known_support (edition_number edition) }
+{
+    match edition {
+        Edition::V3_0 => KNOWN_SUPPORT_3_0,
+        Edition::V3_3 => KNOWN_SUPPORT_3_3,
+    }
 }
 
 // These bits, where the set has all that they need.
@@ -102,76 +120,59 @@ fn is_query(caps: &[u8]) -> bool
 fn met(set: u32, needs: u32, bits: u32) -> u32
     ensures { result ≡ cond (within needs set) bits 0 }
 {
-    if set & needs == needs {
-        return bits;
+    if set & needs == needs { bits } else { 0 }
+}
+
+// The control bits whose needed control bits are available. Edition 3.0: 0, 2 and 3 need bit 4. Edition 3.3: 0, 1, 2, 5 and 8 need bit 4; 3 needs 4 and 7; 7 needs 3 and 4.
+fn needs_met(edition: Edition, available: u32) -> u32
+    ensures { result ≡ needs_met (controls edition) available }
+{
+    match edition {
+        Edition::V3_0 => FREE_3_0 | met(available, EXPRESS_CAPABILITY, DEPENDENT_3_0),
+        Edition::V3_3 => {
+            if available & EXPRESS_CAPABILITY == EXPRESS_CAPABILITY {
+                CAPABLE_3_3
+                    | met(available, PORT_CONTAINMENT, AER)
+                    | met(available, AER, PORT_CONTAINMENT)
+            } else {
+                FREE_3_3
+            }
+        }
     }
-    0
 }
 
-// Bits 0, 2 and 3 need bit 4.
-fn needs_met_3_0(available: u32) -> u32
-    ensures { result ≡ needs_met controls30 available }
+// The control bits whose needed support bits are declared. Edition 3.0: all. Edition 3.3: bit 7 needs support bit 7.
+fn supports_met(edition: Edition, declared: u32) -> u32
+    ensures { result ≡ supports_met (controls edition) declared }
 {
-    FREE_3_0 | met(available, EXPRESS_CAPABILITY, DEPENDENT_3_0)
-}
-
-// Bits 0, 1, 2, 5 and 8 need bit 4; 3 needs 4 and 7; 7 needs 3 and 4.
-fn needs_met_3_3(available: u32) -> u32
-    ensures { result ≡ needs_met controls33 available }
-{
-    if available & EXPRESS_CAPABILITY == EXPRESS_CAPABILITY {
-        return CAPABLE_3_3
-            | met(available, PORT_CONTAINMENT, AER)
-            | met(available, AER, PORT_CONTAINMENT);
+    match edition {
+        Edition::V3_0 => KNOWN_CONTROL_3_0,
+        Edition::V3_3 => UNSUPPORTED_3_3 | met(declared, ERROR_DISCONNECT_RECOVER, PORT_CONTAINMENT),
     }
-    FREE_3_3
 }
 
-// Bit 7 needs support bit 7.
-fn supports_met_3_3(declared: u32) -> u32
-    ensures { result ≡ supports_met controls33 declared }
+// The granted bits by the masks of an edition. What the bits that a bit needs need in turn is needed by it too, or is itself, so one look at the available bits is enough.
+fn granted(edition: Edition, permitted: u32, held: u32, declared: u32, requested: u32) -> u32
+    ensures { result ≡ granted_by (controls edition) permitted held declared requested }
 {
-    UNSUPPORTED_3_3 | met(declared, ERROR_DISCONNECT_RECOVER, PORT_CONTAINMENT)
+    let grantable = permitted & supports_met(edition, declared);
+    let available = requested & known_control(edition) & (held | grantable);
+    available & (held | needs_met(edition, available))
 }
 
-// The granted bits by the masks of each edition. What the bits that a bit needs need in turn is needed by it too, or is itself, so one look at the available bits is enough.
-fn granted_3_0(permitted: u32, held: u32, requested: u32) -> u32
-    ensures { (declared : ℕ) → result ≡ granted_by controls30 permitted held declared requested }
+// The support bits declared to a bridge: by earlier calls, and the known ones of this one.
+fn declared(b: Bridge, support: u32) -> u32
+    ensures { result ≡ declared b support }
 {
-    let available = requested & KNOWN_CONTROL_3_0 & (held | permitted);
-    available & (held | needs_met_3_0(available))
-}
-
-fn granted_3_3(permitted: u32, held: u32, declared: u32, requested: u32) -> u32
-    ensures { result ≡ granted_by controls33 permitted held declared requested }
-{
-    let grantable = permitted & supports_met_3_3(declared);
-    let available = requested & KNOWN_CONTROL_3_3 & (held | grantable);
-    available & (held | needs_met_3_3(available))
+    b.supported | (support & known_support(Edition::of_bridge(b.edition)))
 }
 
 // The control bits granted of those requested, by the bridge's edition.
 pub fn granted_bits(b: Bridge, support: u32, requested: u32) -> u32
     ensures { result ≡ granted_of b support requested }
 {
-    match Edition::of_bridge(b.edition) {
-        Edition::V3_3 => {
-            let declared = b.supported | (support & KNOWN_SUPPORT_3_3);
-            granted_3_3(b.permitted, b.held, declared, requested)
-        }
-        Edition::V3_0 => granted_3_0(b.permitted, b.held, requested),
-    }
-}
-
-// The support bits that an edition knows.
-#[tactic(auto, unfolding(rules::specs::Editions::known_support))]
-fn known_support(edition: u8) -> u32
-    ensures { result ≡ known_support edition }
-{
-    match Edition::of_bridge(edition) {
-        Edition::V3_3 => KNOWN_SUPPORT_3_3,
-        Edition::V3_0 => KNOWN_SUPPORT_3_0,
-    }
+    let edition = Edition::of_bridge(b.edition);
+    granted(edition, b.permitted, b.held, declared(b, support), requested)
 }
 
 // Whether any requested bit is not granted, as a status. What is granted was requested, so that to compare the two is enough.
@@ -179,67 +180,82 @@ fn grant_status(requested: u32, granted: u32) -> u32
     requires { within granted requested ≡ true }
     ensures { result ≡ grant_status requested granted }
 {
-    if granted == requested {
-        return 0;
-    }
-    0x10
+    if granted == requested { 0 } else { MASKED }
 }
 
-// A status, and zeros to the end. The steps are counted to the greatest length, so that the compiler writes each of them out and calls no memset.
+// What a bridge holds.
+fn holding(b: Bridge) -> Holding
+    ensures { result ≡ holding b }
+{
+    Holding {
+        held: b.held,
+        supported: b.supported,
+    }
+}
+
+impl Capabilities {
+    // The DWORDs in a buffer.
+    fn read(caps: &[u8; 12]) -> Capabilities
+        ensures { result ≡ dwords_of caps.now }
+    {
+        Capabilities {
+            status: words::read32(caps, 0),
+            support: words::read32(caps, 4),
+            control: words::read32(caps, 8),
+        }
+    }
+
+    // The DWORDs as the whole buffer.
+    fn write(self, answer: &mut [u8])
+        requires { length answer.old ≡ 12 }
+        ensures { answer.new ≡ bytes_of self }
+    {
+        words::write32(answer, 0, self.status);
+        words::write32(answer, 4, self.support);
+        words::write32(answer, 8, self.control);
+    }
+
+    // Whether the query flag is set.
+    fn is_query(self) -> bool
+        ensures { result ≡ bit self.status 0 }
+    {
+        self.status & QUERY != 0
+    }
+
+    // The answer: the status, the support DWORD as it came, the granted bits.
+    fn answered(self, b: Bridge) -> Capabilities
+        ensures { result ≡ answered b self }
+    {
+        let granted = granted_bits(b, self.support, self.control);
+        Capabilities {
+            status: grant_status(self.control, granted),
+            support: self.support,
+            control: granted,
+        }
+    }
+
+    // What the bridge holds after the call: a query adds nothing.
+    fn after(self, b: Bridge, granted: u32) -> Holding
+        requires { granted ≡ granted_of b self.support self.control }
+        ensures { result ≡ after b self }
+    {
+        if self.is_query() {
+            return holding(b);
+        }
+        Holding {
+            held: b.held | granted,
+            supported: declared(b, self.support),
+        }
+    }
+}
+
+// A status, and zeros to the end.
 fn write_error(answer: &mut [u8], status: u32)
-    requires { (4 ≤ length answer.old) × (length answer.old ≤ 32) × (length answer.old % 4 ≡ 0) }
+    requires { 4 ≤ length answer.old }
     ensures { answer.new ≡ le32 status ++ replicate (length answer.old - 4) 0 }
 {
     words::write32(answer, 0, status);
-    let mut at = 4;
-    while at < 32 {
-        if at < answer.len() {
-            words::write32(answer, at, 0);
-        }
-        at += 4;
-    }
-}
-
-// Status, support and control: the whole buffer.
-fn write_granted(answer: &mut [u8], status: u32, support: u32, control: u32)
-    requires { length answer.old ≡ 12 }
-    ensures { answer.new ≡ le32 status ++ le32 support ++ le32 control }
-{
-    words::write32(answer, 0, status);
-    words::write32(answer, 4, support);
-    words::write32(answer, 8, control);
-}
-
-// The answer to a recognised call is written; the granted bits are handed back.
-fn answer_granted(b: Bridge, caps: &[u8], answer: &mut [u8]) -> u32
-    requires { (length caps.now ≡ 12) × (length answer.old ≡ 12) }
-    ensures { (result ≡ granted_of b (support_of caps.now) (control caps.now)) × (answer.new ≡ granted_answer b caps.now) }
-{
-    let support = words::read32(caps, 4);
-    let requested = words::read32(caps, 8);
-    let granted = granted_bits(b, support, requested);
-    write_granted(answer, grant_status(requested, granted), support, granted);
-    granted
-}
-
-// A recognised call. A query, which adds nothing, is answered apart, so that the compiler branches on the flag.
-fn grant(b: Bridge, caps: &[u8], answer: &mut [u8]) -> Holding
-    requires { (length caps.now ≡ 12) × (length answer.old ≡ 12) }
-    ensures { (answer.new ≡ granted_answer b caps.now) × (result ≡ cond (query caps.now) (holding b) (joined b caps.now)) }
-{
-    let support = words::read32(caps, 4);
-    if is_query(caps) {
-        answer_granted(b, caps, answer);
-        return Holding {
-            held: b.held,
-            supported: b.supported,
-        };
-    }
-    let granted = answer_granted(b, caps, answer);
-    Holding {
-        held: b.held | granted,
-        supported: b.supported | (support & known_support(b.edition)),
-    }
+    answer[4..].fill(0);
 }
 
 impl Request<'_> {
@@ -248,17 +264,33 @@ impl Request<'_> {
     pub fn framing_bad(self, answer: &[u8]) -> bool
         ensures { result ≡ framing_bad self.entry.count self.entry.uuid.now self.entry.caps.now answer.now }
     {
-        if self.uuid.len() != 16 {
-            return true;
-        }
-        if self.count == 0 {
-            return true;
-        }
-        if 8 < self.count {
-            return true;
-        }
         let bytes = 4 * (self.count as usize);
-        (self.caps.len() != bytes) | (answer.len() != bytes)
+        self.uuid.len() != 16
+            || self.count == 0
+            || 8 < self.count
+            || self.caps.len() != bytes
+            || answer.len() != bytes
+    }
+
+    // The DWORDs of a call with the right UUID, revision and Count, else the error. Count is 3 where there are three DWORDs.
+    #[tactic(auto, unfolding(rules::specs::Osc::recognised))]
+    fn recognised(self) -> Result<Capabilities, ErrorStatus>
+        requires { length self.caps.now ≡ 4 * self.count }
+        ensures { MatchResult result
+            (λ caps. (recognised self.entry.revision self.entry.count self.entry.uuid.now ≡ true) × (caps ≡ dwords_of self.entry.caps.now))
+            (λ e. (recognised self.entry.revision self.entry.count self.entry.uuid.now ≡ false)
+                × (status_number e ≡ error_status self.entry.revision self.entry.uuid.now)) }
+    {
+        if !words::same(self.uuid, &UUID) {
+            return Err(ErrorStatus::Uuid);
+        }
+        if self.revision != 1 {
+            return Err(ErrorStatus::Revision);
+        }
+        match self.caps.as_array() {
+            Some(caps) => Ok(Capabilities::read(caps)),
+            None => Err(ErrorStatus::Count),
+        }
     }
 
     // An _OSC call that none of 1, 2 and 3 refuses: the answer buffer is filled; what the bridge holds after it is handed back.
@@ -267,14 +299,16 @@ impl Request<'_> {
         ensures { (answer.new ≡ osc_answer b self.entry.revision self.entry.count self.entry.uuid.now self.entry.caps.now)
             × (result ≡ osc_after b self.entry.revision self.entry.count self.entry.uuid.now self.entry.caps.now) }
     {
-        let error = error_status(self.revision, self.count, self.uuid);
-        if error != 0 {
-            write_error(answer, error);
-            return Holding {
-                held: b.held,
-                supported: b.supported,
-            };
+        match self.recognised() {
+            Ok(caps) => {
+                let answered = caps.answered(b);
+                answered.write(answer);
+                caps.after(b, answered.control)
+            }
+            Err(status) => {
+                write_error(answer, u32::from(status));
+                holding(b)
+            }
         }
-        grant(b, self.caps, answer)
     }
 }

@@ -1,36 +1,41 @@
--- An error status gives the error's answer, none the granted one; the framing gives the lengths.
-use Rattle.std.proofs.Common.{◌∙◌}
-use Rattle.osc.proofs.Framing.{framed, no_error, an_error, three_dwords, some_to_8}
-use Rattle.osc.proofs.Answers.{error_answer, error_after, granted_answer_lem, granted_after}
+-- The framing gives the lengths; a recognised call its answer and what it adds, another one its status.
+use Rattle.std.proofs.Common.{◌≡◌, false, ◌∙◌, sym, ap}
+use Rattle.rules.specs.Osc.{framing_bad}
+use Rattle.osc.proofs.Framing.{framed, room, three, call_answer, call_after, error_answer, error_after}
+use Rattle.osc.specs.Capabilities.{bytes_of, answered, after}
 use Rattle.osc.proofs.Request.respond.Goals as goal
 
-pub write_error-requires : goal.write_error-requires
-write_error-requires c = some_to_8 c.args.self.count c.args.self.uuid.now c.args.self.caps.now c.args.answer.now c.requires
+pub recognised-requires : goal.recognised-requires
+recognised-requires c =
+    let a = c.args.self in
+    (framed a.count a.uuid.now a.caps.now c.args.answer.now c.requires).capabilities_long
 
-pub returns-then-error-ne0 : goal.returns-then-error-ne0
-returns-then-error-ne0 c =
-    let a = c.args in
-    let e = c.error_status-error in
-    let r = an_error a.self.revision a.self.count a.self.uuid.now e.result e.ensures c.if-error-ne0.true in
-    let h = framed a.self.count a.self.uuid.now a.self.caps.now a.answer.now c.requires in (
-      c.write_error.ensures
-          ∙ error_answer a.b a.self.revision a.self.count a.self.uuid.now a.self.caps.now e.result a.answer.now r e.ensures h.answer_long,
-      error_after a.b a.self.revision a.self.count a.self.uuid.now a.self.caps.now r,
+pub write-requires : goal.write-requires
+write-requires c =
+    let a = c.args.self in
+    three a.revision a.count a.uuid.now _ c.in-Ok.ensures.0 (framed a.count a.uuid.now a.caps.now c.args.answer.now c.requires).answer_long
+
+pub write_error-requires : goal.write_error-requires
+write_error-requires c =
+    let a = c.args.self in
+    let h = framed a.count a.uuid.now a.caps.now c.args.answer.now c.requires in
+    room a.count _ h.some_dwords h.answer_long
+
+pub returns-in-Ok : goal.returns-in-Ok
+returns-in-Ok c =
+    let a = c.args.self in
+    let b = c.args.b in
+    let e = c.in-Ok.ensures in (
+      c.write.ensures ∙ ap bytes_of (c.answered-answered.ensures ∙ ap (answered b) e.1) ∙ call_answer b a.revision a.count a.uuid.now a.caps.now e.0,
+      c.after.ensures ∙ ap (after b) e.1 ∙ call_after b a.revision a.count a.uuid.now a.caps.now e.0,
     )
 
-pub grant-requires : goal.grant-requires
-grant-requires c =
-    let a = c.args in
-    let e = c.error_status-error in
-    let r = no_error a.self.revision a.self.count a.self.uuid.now e.result e.ensures c.if-error-ne0.false in
-    let h = three_dwords a.self.revision a.self.count a.self.uuid.now a.self.caps.now a.answer.now c.requires r in
-    (h.capabilities_are, h.answer_is)
-
-pub returns : goal.returns
-returns c =
-    let a = c.args in
-    let e = c.error_status-error in
-    let r = no_error a.self.revision a.self.count a.self.uuid.now e.result e.ensures c.if-error-ne0.false in (
-      c.grant.ensures.0 ∙ granted_answer_lem a.b a.self.revision a.self.count a.self.uuid.now a.self.caps.now r,
-      c.grant.ensures.1 ∙ granted_after a.b a.self.revision a.self.count a.self.uuid.now a.self.caps.now r,
+pub returns-in-Err : goal.returns-in-Err
+returns-in-Err c =
+    let a = c.args.self in
+    let b = c.args.b in
+    let e = c.in-Err.ensures in
+    let h = framed a.count a.uuid.now a.caps.now c.args.answer.now c.requires in (
+      c.write_error.ensures ∙ error_answer b a.revision a.count a.uuid.now a.caps.now _ _ e.0 (c.from.ensures ∙ e.1) h.answer_long,
+      c.holding.ensures ∙ error_after b a.revision a.count a.uuid.now a.caps.now e.0,
     )
