@@ -1,13 +1,13 @@
 -- What a framed call has, and its answer, recognised or not.
-use Prim.Native.Nat.{ℕ, ◌*◌, ◌-◌, ◌≤◌}
-use mathlib.Core.Path.{◌≡◌, refl}
-use mathlib.Core.Bool.{Bool, true, false, cond, not, ◌&&◌, ◌||◌}
+use Prim.Native.Nat.{ℕ, ◌*◌, ◌-◌, ◌%◌, ◌≤◌}
+use mathlib.Core.Path.{◌≡◌}
+use mathlib.Core.Bool.{true, false, not, ◌&&◌}
 use mathlib.Core.List.{List, ◌++◌}
 use native.Mathlib.Omega.{arith}
 use lib.Dec.{eqb, ltb}
 use lib.ListN.{length, replicate}
-use borrow.Author.Tests.{eqb-true, eqb-false, not-false}
-use Rattle.rules.specs.Numbers.{bit, le32, same_bytes}
+use borrow.Author.Tests.{eqb-true, eqb-false, ltb-false, not-false}
+use Rattle.rules.specs.Numbers.{le32, same_bytes}
 use Rattle.rules.specs.Osc.{uuid_bytes, framing_bad, recognised, error_status, osc_answer, osc_after}
 use Rattle.rules.specs.Tables.{holding}
 use Rattle.rules.specs.declared.Bridge.{Bridge}
@@ -17,6 +17,7 @@ use Rattle.osc.specs.Capabilities.{dwords_of, bytes_of, answered, after}
 -- a call that refusal 3 does not meet
 pub record Framed (count : ℕ) (caps answer : List ℕ) : Type 0 where
   pub some_dwords : (count ≡ 0 → ⊥)
+  pub at_most_8 : count ≤ 8
   pub capabilities_long : length caps ≡ 4 * count
   pub answer_long : length answer ≡ 4 * count
 
@@ -29,13 +30,14 @@ framed count uuid caps answer e =
     let z = or_false (not (eqb (length uuid) 16)) (eqb count 0) h.0 in
     record {
       some_dwords = eqb-false count 0 z.1;
+      at_most_8 = ltb-false 8 count h.1;
       capabilities_long = eqb-true (length caps) (4 * count) (not-false (eqb (length caps) (4 * count)) c.1);
       answer_long = eqb-true (length answer) (4 * count) (not-false (eqb (length answer) (4 * count)) a.1);
     }
 
--- there is a DWORD for the status
-pub room : (count : ℕ) (n : ℕ) → (count ≡ 0 → ⊥) → n ≡ 4 * count → 4 ≤ n
-room count n z e = omega (arith, positive count z)
+-- one to eight DWORDs
+pub some_to_8 : (count n : ℕ) → (count ≡ 0 → ⊥) → count ≤ 8 → n ≡ 4 * count → (4 ≤ n) × (n ≤ 32) × (n % 4 ≡ 0)
+some_to_8 count n z m e = (omega (arith, positive count z), omega arith, omega arith)
   where
     positive : (k : ℕ) → (k ≡ 0 → ⊥) → 1 ≤ k
     positive k n = omega arith

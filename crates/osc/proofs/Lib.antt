@@ -1,2 +1,3 @@
 pub mod Framing
+pub mod Errors
 pub mod Masks

@@ -49,7 +49,9 @@ const DEPENDENT_3_0: u32 = 0x0d;
 
 const CAPABLE_3_3: u32 = 0x377;
 
-// The control bits that need no support: all but 7.
+// The control bits that need no support: all; all but 7 in edition 3.3.
+const UNSUPPORTED_3_0: u32 = 0x1f;
+
 const UNSUPPORTED_3_3: u32 = 0x37f;
 
 // The flag in the status DWORD.
@@ -90,8 +92,6 @@ struct Capabilities {
     support: u32,
     control: u32,
 }
-
-// ---- the granting rule
 
 // The control bits that an edition knows.
 #[tactic(auto, unfolding(rules::specs::Editions::known_control, rules::specs::Editions::control_bits))]
@@ -146,8 +146,9 @@ fn supports_met(edition: Edition, declared: u32) -> u32
     ensures { result ≡ supports_met (controls edition) declared }
 {
     match edition {
-        Edition::V3_0 => KNOWN_CONTROL_3_0,
-        Edition::V3_3 => UNSUPPORTED_3_3 | met(declared, ERROR_DISCONNECT_RECOVER, PORT_CONTAINMENT),
+        Edition::V3_0 => UNSUPPORTED_3_0,
+        Edition::V3_3 => UNSUPPORTED_3_3
+            | met(declared, ERROR_DISCONNECT_RECOVER, PORT_CONTAINMENT),
     }
 }
 
@@ -167,12 +168,15 @@ fn declared(b: Bridge, support: u32) -> u32
     b.supported | (support & known_support(Edition::of_bridge(b.edition)))
 }
 
-// The control bits granted of those requested, by the bridge's edition.
+// The control bits granted of those requested, by the bridge's edition. Each edition is named, so that the compiler puts its masks in.
 pub fn granted_bits(b: Bridge, support: u32, requested: u32) -> u32
     ensures { result ≡ granted_of b support requested }
 {
-    let edition = Edition::of_bridge(b.edition);
-    granted(edition, b.permitted, b.held, declared(b, support), requested)
+    let declared = declared(b, support);
+    match Edition::of_bridge(b.edition) {
+        Edition::V3_0 => granted(Edition::V3_0, b.permitted, b.held, declared, requested),
+        Edition::V3_3 => granted(Edition::V3_3, b.permitted, b.held, declared, requested),
+    }
 }
 
 // Whether any requested bit is not granted, as a status. What is granted was requested, so that to compare the two is enough.
@@ -250,12 +254,18 @@ impl Capabilities {
 }
 
 // A status, and zeros to the end.
+// Stays: tried `answer[4..].fill(0)`; it calls memset, and an error with Count 3 takes 84 instructions in place of 55.
 fn write_error(answer: &mut [u8], status: u32)
-    requires { 4 ≤ length answer.old }
+    requires { (4 ≤ length answer.old) × (length answer.old ≤ 32) × (length answer.old % 4 ≡ 0) }
     ensures { answer.new ≡ le32 status ++ replicate (length answer.old - 4) 0 }
 {
     words::write32(answer, 0, status);
-    answer[4..].fill(0);
+    for dword in 1..8 {
+        let at = 4 * dword;
+        if at < answer.len() {
+            words::write32(answer, at, 0);
+        }
+    }
 }
 
 impl Request<'_> {
@@ -279,7 +289,7 @@ impl Request<'_> {
         ensures { MatchResult result
             (λ caps. (recognised self.entry.revision self.entry.count self.entry.uuid.now ≡ true) × (caps ≡ dwords_of self.entry.caps.now))
             (λ e. (recognised self.entry.revision self.entry.count self.entry.uuid.now ≡ false)
-                × (status_number e ≡ error_status self.entry.revision self.entry.uuid.now)) }
+            × (status_number e ≡ error_status self.entry.revision self.entry.uuid.now)) }
     {
         if !words::same(self.uuid, &UUID) {
             return Err(ErrorStatus::Uuid);

@@ -1,7 +1,6 @@
 -- The framing gives the lengths; a recognised call its answer and what it adds, another one its status.
-use Rattle.std.proofs.Common.{◌≡◌, false, ◌∙◌, sym, ap}
-use Rattle.rules.specs.Osc.{framing_bad}
-use Rattle.osc.proofs.Framing.{framed, room, three, call_answer, call_after, error_answer, error_after}
+use Rattle.std.proofs.Common.{◌∙◌, ap}
+use Rattle.osc.proofs.Framing.{framed, some_to_8, three, call_answer, call_after, error_answer, error_after}
 use Rattle.osc.specs.Capabilities.{bytes_of, answered, after}
 use Rattle.osc.proofs.Request.respond.Goals as goal
 
@@ -19,7 +18,7 @@ pub write_error-requires : goal.write_error-requires
 write_error-requires c =
     let a = c.args.self in
     let h = framed a.count a.uuid.now a.caps.now c.args.answer.now c.requires in
-    room a.count _ h.some_dwords h.answer_long
+    some_to_8 a.count _ h.some_dwords h.at_most_8 h.answer_long
 
 pub returns-in-Ok : goal.returns-in-Ok
 returns-in-Ok c =
