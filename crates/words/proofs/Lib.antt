@@ -1,3 +1,2 @@
 pub mod ByteStrings
-pub mod Stores
 pub mod Sums
