@@ -35,6 +35,6 @@ returns-in-Err c =
     let b = c.args.b in
     let e = c.in-Err.ensures in
     let h = framed a.count a.uuid.now a.caps.now c.args.answer.now c.requires in (
-      c.write_error.ensures ∙ error_answer b a.revision a.count a.uuid.now a.caps.now _ _ e.0 (c.from.ensures ∙ e.1) h.answer_long,
+      c.write_error.ensures ∙ error_answer b a.revision a.count a.uuid.now a.caps.now _ _ e.0 e.1 h.answer_long,
       c.holding.ensures ∙ error_after b a.revision a.count a.uuid.now a.caps.now e.0,
     )
