@@ -1,5 +1,5 @@
 -- The bridge that the search finds: its window has the address; and the search is that of crates/rules, which begins where the table does.
-use Rattle.std.proofs.Common.{◌≡◌, ℕ, suc, ◌+◌, List, [], ◌∷◌, Bool, true, false, cond, get_or, position, Option, None, Some, refl, sym, ap, add-one, ◌∙◌, arith}
+use Rattle.std.proofs.Common.{◌≡◌, ℕ, suc, List, [], ◌∷◌, Bool, true, false, cond, get_or, position, Option, None, Some, refl, sym, ap, add-one, ◌∙◌, arith}
 use Rattle.std.specs.List.{position_from}
 use Rattle.std.proofs.Math.Option as math
 use Rattle.std.proofs.lemmas.Iterator.Adapters.{position_from-zero}

@@ -4,5 +4,7 @@ use Rattle.bridges.proofs.osc.Goals as goal
 
 pub returns : goal.returns
 returns c =
-    rw (c.store.ensures.answered, c.store.ensures.stored)
-    (as_stored c.args.t.now c.requires c.args.s c.args.n (requested c.args.request c.args.answer.now) c.call.ensures.made c.osc-done.result c.osc-done.ensures)
+    as_stored c.args.t.now c.requires c.args.s c.args.n (requested c.args.request c.args.answer.now) c.call.ensures.made c.osc-done.result
+    c.store.ensures.answered
+    c.store.ensures.stored
+    c.osc-done.ensures

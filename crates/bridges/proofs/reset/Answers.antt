@@ -4,5 +4,7 @@ use Rattle.bridges.proofs.reset.Goals as goal
 
 pub returns : goal.returns
 returns c =
-    rw (c.store.ensures.answered, c.store.ensures.stored)
-    (as_stored c.args.t.now c.requires c.args.s c.args.n reset c.call.ensures.made c.reset-done.result c.reset-done.ensures)
+    as_stored c.args.t.now c.requires c.args.s c.args.n reset c.call.ensures.made c.reset-done.result
+    c.store.ensures.answered
+    c.store.ensures.stored
+    c.reset-done.ensures
