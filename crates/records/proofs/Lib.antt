@@ -1,4 +1,4 @@
+pub mod Bytes
+pub mod Numbers
 pub mod Passes
-pub mod Reading
-pub mod Types
 pub mod Walking

@@ -1,14 +1,14 @@
 -- The walk of a block, field by field: what is left of it at a byte still gives the answer of the record search.
 -- Assumes nothing.
 use Prim.Native.Nat.{ℕ, zero, suc, ◌+◌, ◌≤◌, ◌<◌}
-use mathlib.Core.Path.{◌≡◌, refl, sym, ap, ◌∙◌, subst}
+use mathlib.Core.Path.{◌≡◌, refl, sym, ap, ap₂, ◌∙◌, subst}
 use mathlib.Core.Bool.{Bool, true, false, not}
 use mathlib.Core.List.{List, [], ◌∷◌}
 use mathlib.Core.Option.{Option, none, some}
 use native.Mathlib.Omega.{arith}
-use lib.Dec.{eqb, leb, ltb}
+use lib.Dec.{eqb, leb}
 use lib.ListN.{length}
-use borrow.Author.Tests.{ltb-true, ltb-false, le-leb, lt-leb, eq-eqb, ne_eqb}
+use borrow.Author.Tests.{le-leb, lt-leb, eq-eqb, eqb-true, ne_eqb}
 use Rattle.rules.specs.Limits.{max_block}
 use Rattle.rules.specs.Lists.{is_none, prepend}
 use Rattle.rules.specs.Parts.{refused}
@@ -22,9 +22,12 @@ use Rattle.codes.specs.Numbers.{number_of}
 use Rattle.parts.specs.declared.Part.{Part}
 use Rattle.std.specs.Prelude.{Ok, Err}
 use Rattle.std.specs.Prelude.{Option as Maybe, Some, None}
-use Rattle.records.specs.Fields.{field_read, judged}
-use Rattle.records.proofs.Reading.{whole_is, whole_fits, field_fits, end_past}
-use Rattle.records.proofs.Passes.{none_seen, has, marked, choice, kept, pass_all, pass_skip, pass_record, pass_twice, pass_bad, pass_answer}
+use Rattle.std.specs.Prelude.{get_or, set, drop, ◌-◌, ◌==◌}
+use Rattle.std.proofs.lemmas.List.{length-drop}
+use Rattle.records.specs.Fields.{bytes_of, field_of, IsSplit, judged}
+use Rattle.records.specs.declared.Tagged.{Tagged}
+use Rattle.records.proofs.Bytes.{size_from, tag_is, fits, size_is, rest_is, judged_is}
+use Rattle.records.proofs.Passes.{none_seen, has, marked, choice, kept, pass_all, pass_skip, pass_record, pass_twice, pass_bad, pass_answer, chosen, left_alone}
 
 -- ---- the fields from a byte on
 
@@ -37,21 +40,20 @@ before_end : (l : List ℕ) (i : ℕ) → i < length l → eqb i (length l) ≡ 
 before_end l i h = ne_eqb i (length l) (λ e. omega arith)
 
 -- a field that runs past the end ends the walk
-cut : (n : ℕ) (l : List ℕ) (i : ℕ) → i < length l → None ≡ field_read l i → fields_from n l i ≡ none
+cut : (n : ℕ) (l : List ℕ) (i : ℕ) → i < length l → length l < 3 + (field_at l i).size + i → fields_from n l i ≡ none
 cut zero l i h e = rw (before_end l i h)
-cut (suc n) l i h e = rw (before_end l i h, end_past l i e)
+cut (suc n) l i h e = rw (before_end l i h, lt-leb (3 + (field_at l i).size + i) (length l) e)
 
 -- a field read whole, and the fields after it
-record After (n : ℕ) (l : List ℕ) (i : ℕ) (f : Field) : Type 0 where
+record After (n : ℕ) (l : List ℕ) (i : ℕ) : Type 0 where
   left : ℕ
-  enough : length l ≤ 3 + f.size + i + left
-  is : fields_from n l i ≡ prepend f (fields_from left l (3 + f.size + i))
+  enough : length l ≤ 3 + (field_at l i).size + i + left
+  is : fields_from n l i ≡ prepend (field_at l i) (fields_from left l (3 + (field_at l i).size + i))
 
-after : (n : ℕ) (l : List ℕ) (i : ℕ) (f : Field) → i < length l → length l ≤ i + n → Some f ≡ field_read l i → After n l i f
-after zero l i f h k e = absurd (omega arith)
-after (suc n) l i f h k e =
-    subst (After (suc n) l i) (sym (whole_is l i f e))
-    (record { left = n; enough = omega arith; is = rw (before_end l i h, le-leb (3 + (field_at l i).size + i) (length l) (whole_fits l i f e)) })
+after : (n : ℕ) (l : List ℕ) (i : ℕ) → i < length l → length l ≤ i + n → 3 + (field_at l i).size + i ≤ length l → After n l i
+after zero l i h k e = absurd (omega arith)
+after (suc n) l i h k e =
+    record { left = n; enough = omega arith; is = rw (before_end l i h, le-leb (3 + (field_at l i).size + i) (length l) e) }
 
 -- ---- what is left of the walk
 
@@ -96,40 +98,123 @@ module _ (l : List ℕ) (type i : ℕ) (s : List Bool) (found : Maybe Part) (w :
 
   module _ (h : i < length l) where
     -- a field that runs past the end refuses the block
-    pub ended : None ≡ field_read l i → refused 8 ≡ find_record [] l type
+    pub ended : length l < 3 + (field_at l i).size + i → refused 8 ≡ find_record [] l type
     ended e = ap (pass l type s found) (sym (cut w.fuel l i h e)) ∙ w.gives
 
-    module _ (f : Field) (e : Some f ≡ field_read l i) where
-      rest : After w.fuel l i f
-      rest = after w.fuel l i f h w.enough e
+    module _ (e : 3 + (field_at l i).size + i ≤ length l) where
+      abbrev f : Field
+      f = field_at l i
+
+      rest : After w.fuel l i
+      rest = after w.fuel l i h w.enough e
 
       -- the pass from this field on
       here : pass l type s found (prepend f (fields_from rest.left l (3 + f.size + i))) ≡ find_record [] l type
       here = ap (pass l type s found) (sym rest.is) ∙ w.gives
 
       -- a broken rule refuses the block, and so does a second record of a type
-      pub bad : (r : Refusal) → Err r ≡ judged (field_sound l f) (is_record l f) → refused (number_of r) ≡ find_record [] l type
+      pub bad : (r : Refusal) → Err r ≡ judged (field_sound l (field_at l i)) (is_record l (field_at l i)) → refused (number_of r) ≡ find_record [] l type
       bad r j = pass_bad (field_sound l) (is_record l) type s found f (fields_from rest.left l (3 + f.size + i)) r j ∙ here
 
-      pub twice : Ok true ≡ judged (field_sound l f) (is_record l f) → has s f.tag ≡ true → refused 8 ≡ find_record [] l type
+      pub twice : Ok true ≡ judged (field_sound l (field_at l i)) (is_record l (field_at l i)) → has s (field_at l i).tag ≡ true → refused 8 ≡ find_record [] l type
       twice j k = pass_twice (field_sound l) (is_record l) type s found f (fields_from rest.left l (3 + f.size + i)) j k ∙ here
 
       -- the walk goes on after a skipped field, and after a record
-      pub skipped : Ok false ≡ judged (field_sound l f) (is_record l f) → Left l type (3 + f.size + i) s found
+      pub skipped : Ok false ≡ judged (field_sound l (field_at l i)) (is_record l (field_at l i)) → Left l type (3 + (field_at l i).size + i) s found
       skipped j =
           record {
             fuel = rest.left;
             enough = rest.enough;
-            inside = (field_fits l i f e).0;
+            inside = e;
             gives = sym (pass_skip (field_sound l) (is_record l) type s found f (fields_from rest.left l (3 + f.size + i)) j) ∙ here;
           }
 
-      pub recorded : Ok true ≡ judged (field_sound l f) (is_record l f) → has s f.tag ≡ false
-          → Left l type (3 + f.size + i) (marked s f.tag) (choice type f found)
+      pub recorded : Ok true ≡ judged (field_sound l (field_at l i)) (is_record l (field_at l i)) → has s (field_at l i).tag ≡ false
+          → Left l type (3 + (field_at l i).size + i) (marked s (field_at l i).tag) (choice type (field_at l i) found)
       recorded j k =
           record {
             fuel = rest.left;
             enough = rest.enough;
-            inside = (field_fits l i f e).0;
+            inside = e;
             gives = sym (pass_record (field_sound l) (is_record l) type s found f (fields_from rest.left l (3 + f.size + i)) j k) ∙ here;
           }
+
+-- ---- the walk by what is left of the bytes
+
+none_left : (n : ℕ) → true ≡ (n == 0) → n ≡ 0
+none_left n e = eqb-true n 0 (sym e)
+
+some_left : (n : ℕ) → false ≡ (n == 0) → 0 < n
+some_left zero e = absurd (cc)
+some_left (suc n) e = omega arith
+
+-- these bytes are left of the block
+pub record Walk (l : List ℕ) (type : ℕ) (rest : List ℕ) (s : List Bool) (found : Maybe Part) : Type 0 where
+  pub at : ℕ
+  pub is : rest ≡ drop at l
+  pub left : Left l type at s found
+
+pub starts : (l : List ℕ) (type : ℕ) → length l ≤ max_block → Walk l type l none_seen None
+starts l type h = record { at = 0; is = refl; left = at_start l type h }
+
+module _ (l : List ℕ) (type : ℕ) (rest : List ℕ) (s : List Bool) (found : Maybe Part) (w : Walk l type rest s found) where
+  long : length rest ≡ length l - w.at
+  long = ap length w.is ∙ length-drop w.at l
+
+  pub walked : true ≡ (length rest == 0) → kept found ≡ find_record [] l type
+  walked h = at_end l type w.at s found w.left (omega (arith, long, none_left (length rest) h))
+
+  module _ (h : false ≡ (length rest == 0)) where
+    before : w.at < length l
+    before = omega (arith, long, some_left (length rest) h)
+
+    pub runs_out : length rest < 3 + (field_at rest 0).size → refused 8 ≡ find_record [] l type
+    runs_out n =
+        let size : (field_at rest 0).size ≡ (field_at l w.at).size = ap (λ (r : List ℕ). (field_at r 0).size) w.is ∙ sym (size_from l w.at) in
+        ended l type w.at s found w.left before (omega (arith, long))
+
+    module _ (t : Tagged) (after : List ℕ) (e : IsSplit rest t after) where
+      split : IsSplit (drop w.at l) t after
+      split = subst (λ (r : List ℕ). IsSplit r t after) w.is e
+
+      inside : 3 + (field_at l w.at).size + w.at ≤ length l
+      inside = fits l w.at t after split
+
+      same : judged (field_sound (bytes_of t) (field_of t)) (is_record (bytes_of t) (field_of t))
+          ≡ judged (field_sound l (field_at l w.at)) (is_record l (field_at l w.at))
+      same = judged_is l w.at t after split
+
+      pub refuses : (r : Refusal) → Err r ≡ judged (field_sound (bytes_of t) (field_of t)) (is_record (bytes_of t) (field_of t))
+          → refused (number_of r) ≡ find_record [] l type
+      refuses r j = bad l type w.at s found w.left before inside r (j ∙ same)
+
+      pub refuses_second : Ok true ≡ judged (field_sound (bytes_of t) (field_of t)) (is_record (bytes_of t) (field_of t))
+          → get_or s t.tag false ≡ true → refused 8 ≡ find_record [] l type
+      refuses_second j k = twice l type w.at s found w.left before inside (j ∙ same) (sym (ap (has s) (tag_is l w.at t after split)) ∙ k)
+
+      pub skips : Ok false ≡ judged (field_sound (bytes_of t) (field_of t)) (is_record (bytes_of t) (field_of t)) → Walk l type after s found
+      skips j =
+          record {
+            at = 3 + (field_at l w.at).size + w.at;
+            is = rest_is l w.at t after split;
+            left = skipped l type w.at s found w.left before inside (j ∙ same);
+          }
+
+      module _ (j : Ok true ≡ judged (field_sound (bytes_of t) (field_of t)) (is_record (bytes_of t) (field_of t))) (k : get_or s t.tag false ≡ false) where
+        goes_on : (now : Maybe Part) → choice type (field_at l w.at) found ≡ now → Walk l type after (set s t.tag true) now
+        goes_on now c =
+            record {
+              at = 3 + (field_at l w.at).size + w.at;
+              is = rest_is l w.at t after split;
+              left = rw (tag_is l w.at t after split, ← c)
+                (recorded l type w.at s found w.left before inside (j ∙ same) (sym (ap (has s) (tag_is l w.at t after split)) ∙ k));
+            }
+
+        pub keeps : t.tag ≡ type → Walk l type after (set s t.tag true) (Some (record { start = length l - length rest; size = 3 + length t.value.now }))
+        keeps q =
+            let start : w.at ≡ length l - length rest = omega (arith, long, inside) in
+            let size = size_is l w.at t after split in
+            goes_on _ (sym (chosen type (field_at l w.at) found (sym (tag_is l w.at t after split) ∙ q)) ∙ ap₂ (λ (n k : ℕ). Some (record { start = n; size = 3 + k })) start (sym size))
+
+        pub passes_by : (t.tag ≡ type → ⊥) → Walk l type after (set s t.tag true) found
+        passes_by n = goes_on found (sym (left_alone type (field_at l w.at) found (λ q. n (tag_is l w.at t after split ∙ q))))

@@ -1,44 +1,51 @@
-use Rattle.std.proofs.Common.{sym, ◌∙◌, arith}
+use Rattle.std.proofs.Common.{◌≡◌, sym, ◌∙◌, arith}
 use Rattle.std.proofs.lemmas.Result.{err_from_is_err_and}
 use Rattle.rules.specs.Limits.{max_block}
-use Rattle.records.proofs.Walking.{too_long, at_start, bad, twice, skipped, recorded}
-use Rattle.records.proofs.Passes.{chosen, left_alone}
+use Rattle.codes.specs.declared.Refusal.TheVariants.{RecordBlock}
+use Rattle.records.proofs.Walking.{too_long, starts, walked, runs_out, refuses, refuses_second, skips, keeps, passes_by}
 use Rattle.records.proofs.search_block.Goals as goal
-use Rattle.records.proofs.search_block.Goals.{then-branch+else-seen-field+then-from-record_type, then-branch+else-seen-field+else-from-record_type, else-branch}
 
 pub returns-then-b-gt-MAX_BLOCK : goal.returns-then-b-gt-MAX_BLOCK
 unfolding max_block
 returns-then-b-gt-MAX_BLOCK c = too_long c.args.b.now c.args.record_type (omega arith)
 
-pub loop-at-init : goal.loop-at-init
+pub loop-rest-init : goal.loop-rest-init
 unfolding max_block
-loop-at-init c = at_start c.args.b.now c.args.record_type (omega arith)
+loop-rest-init c = starts c.args.b.now c.args.record_type (omega arith)
 
-pub returns-in_err-judge : goal.returns-in_err-judge
-returns-in_err-judge c =
-    let p = err_from_is_err_and c.from_residual-in_err-judge.result c.from_residual-in_err-judge.ensures.1 in
+pub returns-in_err-field : goal.returns-in_err-field
+returns-in_err-field c =
+    let p = err_from_is_err_and c.from_residual.result c.from_residual.ensures.1 in
+    let is : c.in_err-field.field-0.0 ≡ RecordBlock = cc (rw c.in_err-field.ensures.ok_part at c.in_err-field.ensures.value) in
+    rw (p.1, p.2, is)
+    (runs_out _ _ _ _ _ c.loop-rest.invariant c.loop-rest-test.ensures (rw c.in_err-field.ensures.ok_part at c.split_field.ensures))
+
+pub returns-in_err-is_record : goal.returns-in_err-is_record
+returns-in_err-is_record c =
+    let p = err_from_is_err_and c.from_residual-in_err-is_record.result c.from_residual-in_err-is_record.ensures.1 in
     rw (p.1, p.2)
-    (bad _ _ _ _ _ c.loop-at.invariant c.loop-at-test.true c.in_ok-field.field (sym c.in_ok-field.ensures.ok_part ∙ c.read_field.ensures) _ c.in_err-judge.ensures)
+    (refuses _ _ _ _ _ c.loop-rest.invariant c.loop-rest-test.ensures c.in_ok-field.field _ (rw c.in_ok-field.ensures.ok_part at c.split_field.ensures)
+    _ c.in_err-is_record.ensures)
 
 pub returns-then-seen-field : goal.returns-then-seen-field
 returns-then-seen-field c =
-    twice _ _ _ _ _ c.loop-at.invariant c.loop-at-test.true c.in_ok-field.field (sym c.in_ok-field.ensures.ok_part ∙ c.read_field.ensures)
-    (rw c.if-branch.true at c.in_ok-judge.ensures)
-    c.if-seen-field.true
+    refuses_second _ _ _ _ _ c.loop-rest.invariant c.loop-rest-test.ensures c.in_ok-field.field _ (rw c.in_ok-field.ensures.ok_part at c.split_field.ensures)
+    (rw c.if-branch.true at c.in_ok-is_record.ensures) c.if-seen-field.true
 
-pub loop-at-preserved : goal.loop-at-preserved
-loop-at-preserved c =
-    elim c.if-branch.branch [
-      | then-branch+else-seen-field+then-from-record_type w ↦
-          rw (w.seen-is, w.found-is ∙ chosen c.args.record_type c.in_ok-field.field c.loop-at.found (sym w.from.ensures ∙ w.if-from-record_type.true))
-          (recorded _ _ _ _ _ c.loop-at.invariant c.loop-at-test.true c.in_ok-field.field (sym c.in_ok-field.ensures.ok_part ∙ c.read_field.ensures)
-          (rw w.if-branch.true at c.in_ok-judge.ensures) w.if-seen-field.false)
-      | then-branch+else-seen-field+else-from-record_type w ↦
-          rw (w.seen-is, w.found-is ∙ left_alone c.args.record_type c.in_ok-field.field c.loop-at.found (λ i. w.if-from-record_type.false (w.from.ensures ∙ i)))
-          (recorded _ _ _ _ _ c.loop-at.invariant c.loop-at-test.true c.in_ok-field.field (sym c.in_ok-field.ensures.ok_part ∙ c.read_field.ensures)
-          (rw w.if-branch.true at c.in_ok-judge.ensures) w.if-seen-field.false)
-      | else-branch w ↦
-          rw (w.seen-is, w.found-is)
-          (skipped _ _ _ _ _ c.loop-at.invariant c.loop-at-test.true c.in_ok-field.field (sym c.in_ok-field.ensures.ok_part ∙ c.read_field.ensures)
-          (rw w.if-branch.false at c.in_ok-judge.ensures))
-    ]
+pub loop-rest-preserved-then-from-record_type : goal.loop-rest-preserved-then-from-record_type
+loop-rest-preserved-then-from-record_type c =
+    keeps _ _ _ _ _ c.loop-rest.invariant c.loop-rest-test.ensures c.in_ok-field.field _ (rw c.in_ok-field.ensures.ok_part at c.split_field.ensures)
+    (rw c.if-branch.true at c.in_ok-is_record.ensures) c.if-seen-field.false (sym c.from.ensures ∙ c.if-from-record_type.true)
+
+pub loop-rest-preserved-else-from-record_type : goal.loop-rest-preserved-else-from-record_type
+loop-rest-preserved-else-from-record_type c =
+    passes_by _ _ _ _ _ c.loop-rest.invariant c.loop-rest-test.ensures c.in_ok-field.field _ (rw c.in_ok-field.ensures.ok_part at c.split_field.ensures)
+    (rw c.if-branch.true at c.in_ok-is_record.ensures) c.if-seen-field.false (λ e. c.if-from-record_type.false (c.from.ensures ∙ e))
+
+pub loop-rest-preserved : goal.loop-rest-preserved
+loop-rest-preserved c =
+    skips _ _ _ _ _ c.loop-rest.invariant c.loop-rest-test.ensures c.in_ok-field.field _ (rw c.in_ok-field.ensures.ok_part at c.split_field.ensures)
+    (rw c.if-branch.false at c.in_ok-is_record.ensures)
+
+pub returns : goal.returns
+returns c = rw c.ok_or-2.ensures.value (walked _ _ _ _ _ c.loop-rest.invariant c.loop-rest-test.ensures)

@@ -1,10 +1,10 @@
 -- the pass over the fields that are left gives the answer
-use Rattle.std.proofs.Common.{length, ◌-◌}
-use Rattle.records.proofs.Walking.{Left}
+use Rattle.std.proofs.Common.{length}
+use Rattle.records.proofs.Walking.{Walk}
 use Rattle.records.proofs.search_block.Given as goal
 
-abbrev pub invariant-loop-at : goal.invariant-loop-at
-invariant-loop-at l = Left l.b l.record_type l.at l.seen l.found
+abbrev pub invariant-loop-rest : goal.invariant-loop-rest
+invariant-loop-rest l = Walk l.b l.record_type l.rest l.seen l.found
 
-abbrev pub decreases-loop-at : goal.decreases-loop-at
-decreases-loop-at l = length l.b - l.at
+abbrev pub decreases-loop-rest : goal.decreases-loop-rest
+decreases-loop-rest l = length l.rest
