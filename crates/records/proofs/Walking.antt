@@ -207,7 +207,7 @@ module _ (l : List ℕ) (type : ℕ) (rest : List ℕ) (s : List Bool) (found : 
               at = 3 + (field_at l w.at).size + w.at;
               is = rest_is l w.at t after split;
               left = rw (tag_is l w.at t after split, ← c)
-                (recorded l type w.at s found w.left before inside (j ∙ same) (sym (ap (has s) (tag_is l w.at t after split)) ∙ k));
+                  (recorded l type w.at s found w.left before inside (j ∙ same) (sym (ap (has s) (tag_is l w.at t after split)) ∙ k));
             }
 
         pub keeps : t.tag ≡ type → Walk l type after (set s t.tag true) (Some (record { start = length l - length rest; size = 3 + length t.value.now }))

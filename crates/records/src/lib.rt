@@ -24,10 +24,16 @@ struct Tagged<'a> {
 fn split_field<'a>(b: &'a [u8]) -> Option<(Tagged<'a>, &'a [u8])>
     ensures { MatchOption result (length b.now < 3 + (field_at b.now 0).size) (λ p. IsSplit b.now p.0 p.1.now) }
 {
-    let ([tag, low, high], rest) = b.split_first_chunk::<3>()?;
-    let size = u16::from_le_bytes([*low, *high]);
-    let (value, rest) = rest.split_at_checked(usize::from(size))?;
-    Some((Tagged { tag: *tag, value }, rest))
+    let (header, rest) = b.split_first_chunk::<3>()?;
+    let size = usize::from(words::read16(header, 1));
+    let (value, rest) = rest.split_at_checked(size)?;
+    Some((
+        Tagged {
+            tag: header[0],
+            value,
+        },
+        rest,
+    ))
 }
 
 impl<'a> Tagged<'a> {
