@@ -1,4 +1,2 @@
+pub mod Laid
 pub mod Splicing
-pub mod Present
-pub mod Measuring
-pub mod Answers

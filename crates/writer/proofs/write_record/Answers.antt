@@ -1,7 +1,10 @@
 -- a byte stored and two splices behind it are one
-use Rattle.std.proofs.Common.{arith}
+use Rattle.std.proofs.Common.{sym, arith}
 use Rattle.writer.proofs.Splicing.{record_written}
 use Rattle.writer.proofs.write_record.Goals as goal
 
 pub returns : goal.returns
-returns c = record_written c.args.at c.args.tag c.args.v.now c.args.b.now _ _ (omega arith) c.write16.ensures c.write_numbers.ensures
+returns g c =
+    let count = g.met.S.SettingRecord.count c.args.r in
+    record_written c.args.at g.S.SettingRecord.TYPE (g.S.SettingRecord.numbers c.args.r) c.args.b.now _ _ (omega (arith, count))
+    (rw (count, sym c.TYPE.ensures) c.write16.ensures) (rw c.numbers.ensures at c.write_numbers.ensures)
