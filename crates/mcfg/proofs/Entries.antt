@@ -1,42 +1,58 @@
--- The entries from a byte to the end, one by one, and the window of a sound entry.
+-- The entries of a table, record by record, and the window of a sound entry.
 -- Assumes nothing.
-use Prim.Native.Nat.{ℕ, zero, suc, ◌+◌, ◌-◌, ◌*◌, ◌/◌, ◌^◌, ◌≤◌, ◌<◌}
-use mathlib.Core.Path.{◌≡◌, refl, sym, ap, ◌∙◌}
-use mathlib.Core.Bool.{true}
-use mathlib.Core.List.{List, [], ◌∷◌}
-use native.Mathlib.Omega.{arith}
-use lib.Dec.{leb}
-use lib.ListN.{length}
-use borrow.Author.Tests.{leb-true, le-leb}
-use Rattle.rules.specs.Mcfg.{entries, entry_at, entries_from, bus_end, entry_sound}
+use Rattle.std.proofs.Common.{◌≡◌, ℕ, zero, suc, ◌+◌, ◌-◌, ◌*◌, ◌/◌, ◌^◌, ◌≤◌, ◌<◌, true, List, ◌∷◌, map, length, get_or, take, drop, leb, ltb, refl, sym, ap, ap₂, ◌∙◌, arith, drop-drop, length-drop}
+use Rattle.std.specs.Simd.{first_chunks}
+use Rattle.std.proofs.lemmas.List.{get_or-take, get_or-drop}
+use borrow.Author.Tests.{leb-true, le-leb, ltb-true, lt-ltb}
+use Rattle.rules.specs.Numbers.{word, qword}
+use Rattle.rules.specs.Mcfg.{entries, entry_at, entries_from, bus_start, bus_end, entry_sound}
 use Rattle.rules.specs.declared.Entry.{Entry}
 use Rattle.rules.proofs.Tests.{and_l, and_r, same_test}
-use Rattle.mcfg.specs.Rest.{rest}
+use Rattle.mcfg.specs.Rest.{entry_in, first_byte, last_byte}
 
--- all entries are those from byte 44
-pub rest_all : (m : List ℕ) → rest m 44 ≡ entries m
-unfolding rest entries
-rest_all m = refl
+-- the record of 16 bytes at a byte holds the entry there
+module _ (m : List ℕ) (i : ℕ) where
+  abbrev record_at : List ℕ
+  record_at = take 16 (drop i m)
 
--- a whole entry is left: it, and those behind it
-pub rest_step : (m : List ℕ) (i : ℕ) → 16 + i ≤ length m → rest m i ≡ entry_at m i ∷ rest m (16 + i)
-unfolding rest
-rest_step m i h = ap (λ (n : ℕ). entries_from n m i) count
+  same_byte : (k j : ℕ) → k < 16 → j ≡ i + k → get_or record_at k 0 ≡ get_or m j 0
+  same_byte k j h e = get_or-take 16 (drop i m) k 0 h ∙ get_or-drop i m k 0 ∙ ap (λ (n : ℕ). get_or m n 0) (sym e)
+
+  same_base : qword record_at 0 ≡ qword m i
+  same_base =
+      omega (
+        arith,
+        same_byte 0 i (omega arith) (omega arith),
+        same_byte 1 (1 + i) (omega arith) (omega arith),
+        same_byte 2 (2 + i) (omega arith) (omega arith),
+        same_byte 3 (1 + (2 + i)) (omega arith) (omega arith),
+        same_byte 4 (4 + i) (omega arith) (omega arith),
+        same_byte 5 (1 + (4 + i)) (omega arith) (omega arith),
+        same_byte 6 (2 + (4 + i)) (omega arith) (omega arith),
+        same_byte 7 (1 + (2 + (4 + i))) (omega arith) (omega arith),
+      )
+
+  same_segment : word record_at 8 ≡ word m (8 + i)
+  same_segment = omega (arith, same_byte 8 (8 + i) (omega arith) (omega arith), same_byte 9 (1 + (8 + i)) (omega arith) (omega arith))
+
+  same_entry : entry_in record_at ≡ entry_at m i
+  same_entry = cc (same_base, same_segment, same_byte 10 (10 + i) (omega arith) (omega arith), same_byte 11 (11 + i) (omega arith) (omega arith))
+
+-- the first records hold the first entries
+pub record_entries : (n : ℕ) (m : List ℕ) (i : ℕ) → map entry_in (first_chunks 16 n (drop i m)) ≡ entries_from n m i
+record_entries zero m i = refl
+record_entries (suc n) m i = ap₂ ◌∷◌ (same_entry m i) (ap (λ (b : List ℕ). map entry_in (first_chunks 16 n b)) next ∙ record_entries n m (16 + i))
   where
-    count : (length m - i) / 16 ≡ suc ((length m - (16 + i)) / 16)
-    count = omega arith
+    next : drop 16 (drop i m) ≡ drop (16 + i) m
+    next = drop-drop 16 i m ∙ ap (λ (k : ℕ). drop k m) (omega arith)
 
--- the same of the entry that was read
-pub rest_at : (m : List ℕ) (i : ℕ) (e : Entry) → e ≡ entry_at m i → 16 + i ≤ length m → rest m i ≡ e ∷ rest m (16 + i)
-rest_at m i e is h = rest_step m i h ∙ ap (λ (x : Entry). x ∷ rest m (16 + i)) (sym is)
-
--- none is left
-pub rest_end : (m : List ℕ) (i : ℕ) → length m < 16 + i → rest m i ≡ []
-unfolding rest
-rest_end m i h = ap (λ (n : ℕ). entries_from n m i) count
+-- the records behind the header hold the entries
+pub all_records : (m b : List ℕ) → b ≡ drop 44 m → map entry_in (first_chunks 16 (length b / 16) b) ≡ entries m
+unfolding entries
+all_records m b e = rw e (ap (λ (n : ℕ). map entry_in (first_chunks 16 n (drop 44 m))) count ∙ record_entries ((length m - 44) / 16) m 44)
   where
-    count : (length m - i) / 16 ≡ 0
-    count = omega arith
+    count : length (drop 44 m) / 16 ≡ (length m - 44) / 16
+    count = ap (λ (n : ℕ). n / 16) (length-drop 44 m)
 
 from_length : (n : ℕ) (m : List ℕ) (i : ℕ) → length (entries_from n m i) ≡ n
 from_length zero m i = refl
@@ -58,5 +74,18 @@ pub in_order : (e : Entry) → entry_sound e ≡ true → e.start_bus ≤ e.end_
 in_order e h = leb-true e.start_bus e.end_bus (search (and_l, and_r))
 
 -- its window ends at 2^64 at most
-pub window_end : (e : Entry) → entry_sound e ≡ true → bus_end e.base e.end_bus ≤ 2 ^ 64
+window_end : (e : Entry) → entry_sound e ≡ true → bus_end e.base e.end_bus ≤ 2 ^ 64
 window_end e h = leb-true (bus_end e.base e.end_bus) (2 ^ 64) (search (and_l, and_r))
+
+-- so that 64 bits hold its first and its last byte
+pub windows_fit : (e f : Entry) → entry_sound e ≡ true → entry_sound f ≡ true
+    → ltb (last_byte e) (first_byte f) ≡ leb (bus_end e.base e.end_bus) (bus_start f.base f.start_bus)
+windows_fit e f s t = same_test _ _
+    (λ h. let k = ltb-true (last_byte e) (first_byte f) h in le-leb (bus_end e.base e.end_bus) (bus_start f.base f.start_bus) (omega (arith, last, first)))
+    (λ h. let k = leb-true (bus_end e.base e.end_bus) (bus_start f.base f.start_bus) h in lt-ltb (last_byte e) (first_byte f) (omega (arith, last, first)))
+  where
+    last : last_byte e + 1 ≡ bus_end e.base e.end_bus
+    last = let w = window_end e s in omega arith
+
+    first : first_byte f ≡ bus_start f.base f.start_bus
+    first = let w = window_end f t in let o = in_order f t in omega arith

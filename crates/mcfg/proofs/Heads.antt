@@ -1,40 +1,28 @@
--- Tests over a list whose first element is known, and two tests of each pair.
+-- Tests over a list, as the library's methods take them, and two tests of each pair.
 -- Assumes nothing.
+use Rattle.std.specs.Prelude.{Some}
+use Rattle.std.specs.List.{list_all, find}
 use mathlib.Core.Path.{◌≡◌, refl, ap, ◌∙◌}
-use mathlib.Core.Bool.{Bool, true, false, ◌&&◌}
-use mathlib.Core.List.{List, [], ◌∷◌}
+use mathlib.Core.Bool.{Bool, true, false, cond, ◌&&◌}
 use mathlib.Core.Option.{some}
+use mathlib.Core.List.{List, [], ◌∷◌, map}
 use Rattle.rules.specs.Lists.{every, pairwise, first}
 use Rattle.rules.proofs.Tests.{and_is, and_l, and_r}
+use Rattle.mcfg.specs.Found.{answer_of}
 
-module _ {A : Type 0} {l k : List A} {e : A} (here : l ≡ e ∷ k) where
-  -- the first element fails, or passes and leaves the test to the others
-  pub every_fails : (p : A → Bool) → p e ≡ false → every p l ≡ false
-  every_fails p f = rw (here, f)
+-- a test of all elements, each made of another
+pub all_every : {A B : Type 0} (f : A → B) (p : B → Bool) (l : List A) → list_all (λ (x : A). p (f x)) l ≡ every p (map f l)
+all_every f p [] = refl
+all_every f p (x ∷ l) = ap (λ (t : Bool). p (f x) && t) (all_every f p l)
 
-  pub every_goes : (p : A → Bool) → p e ≡ true → every p k ≡ every p l
-  every_goes p t = rw (here, t)
-
-  -- what every element passes
-  pub every_head : (p : A → Bool) → every p l ≡ true → p e ≡ true
-  every_head p a = and_l (p e) (every p k) (rw here at a)
-
-  pub every_tail : (p : A → Bool) → every p l ≡ true → every p k ≡ true
-  every_tail p a = and_r (p e) (every p k) (rw here at a)
-
-  -- the pairs of the first element, then those of the others
-  pub pairwise_fails : (p : A → A → Bool) → every (p e) k ≡ false → pairwise p l ≡ false
-  pairwise_fails p f = rw (here, f)
-
-  pub pairwise_goes : (p : A → A → Bool) → every (p e) k ≡ true → pairwise p k ≡ pairwise p l
-  pairwise_goes p t = rw (here, t)
-
-  -- the first element is the one sought, or it is among the others
-  pub first_head : (p : A → Bool) → p e ≡ true → first p l ≡ some e
-  first_head p t = rw (here, t)
-
-  pub first_tail : (p : A → Bool) → p e ≡ false → first p k ≡ first p l
-  first_tail p f = rw (here, f)
+-- the first element that passes
+pub find_first : {A : Type 0} (p : A → Bool) (l : List A) → find p l ≡ answer_of (first p l)
+find_first p [] = refl
+find_first p (x ∷ l) = go (p x) (find_first p l)
+  where
+    go : (t : Bool) → find p l ≡ answer_of (first p l) → cond t (Some x) (find p l) ≡ answer_of (cond t (some x) (first p l))
+    go true e = refl
+    go false e = e
 
 -- a test of every element that follows from another
 pub every_weaker : {A : Type 0} (p q : A → Bool) → ((x : A) → p x ≡ true → q x ≡ true) → (l : List A) → every p l ≡ true → every q l ≡ true

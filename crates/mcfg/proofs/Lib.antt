@@ -2,4 +2,3 @@ pub mod Heads
 pub mod Entries
 pub mod Rising
 pub mod Header
-pub mod Turns

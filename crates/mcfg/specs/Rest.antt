@@ -1,8 +1,8 @@
--- The conditions of `mcfg_sound` as the code tests them: the header first, then the entries from a byte to the end.
-use Rattle.std.specs.Prelude.{ℕ, ◌+◌, ◌-◌, ◌*◌, ◌/◌, ◌%◌, Bool, true, ◌&&◌, List, [], ◌∷◌, eqb, leb, ltb, length, take}
+-- The conditions of `mcfg_sound` as the code tests them: the header first, then the records of the entries.
+use Rattle.std.specs.Prelude.{ℕ, ◌+◌, ◌-◌, ◌*◌, ◌%◌, ◌^◌, Bool, true, ◌&&◌, ◌||◌, List, [], ◌∷◌, eqb, leb, ltb, length, take}
 use Rattle.rules.specs.Limits.{max_entries}
 use Rattle.rules.specs.Numbers.{byte, dword, sum, same_bytes}
-use Rattle.rules.specs.Mcfg.{entries, entries_from, signature, bus_start, bus_end, share_no_bus, share_no_byte}
+use Rattle.rules.specs.Mcfg.{entries, entry_at, signature, bus_start, bus_end, share_no_bus, share_no_byte}
 use Rattle.rules.specs.declared.Entry.{Entry}
 
 -- all that is sound of the table but its entries
@@ -16,22 +16,42 @@ header_sound m =
     && eqb ((length m - 44) % 16) 0
     && leb (length (entries m)) max_entries
 
--- the whole entries from byte i to the end
-unfoldable pub rest : List ℕ → ℕ → List Entry
-rest m i = entries_from ((length m - i) / 16) m i
+-- the entry of a record of 16 bytes
+abbrev pub entry_in : List ℕ → Entry
+entry_in r = entry_at r 0
+
+-- the first and the last byte of an entry's window, in 64 bits
+abbrev pub first_byte : Entry → ℕ
+first_byte e = (e.base + e.start_bus * 2 ^ 20) % 2 ^ 64
+
+abbrev pub last_byte : Entry → ℕ
+last_byte e = (e.base + (e.end_bus * 2 ^ 20 + (2 ^ 20 - 1))) % 2 ^ 64
 
 -- two entries share neither a bus nor a byte
 abbrev pub apart : Entry → Entry → Bool
 apart e f = share_no_bus e f && share_no_byte e f
 
--- the buses of one entry come before those of another, by segment and bus, and so does its window
+-- the same, by the first and the last bytes of their windows
+abbrev pub windows_apart : Entry → Entry → Bool
+windows_apart e f = ltb (last_byte e) (first_byte f) || ltb (last_byte f) (first_byte e)
+
+abbrev pub seen_apart : Entry → Entry → Bool
+seen_apart e f = share_no_bus e f && windows_apart e f
+
+-- the buses of one entry come before those of another, by segment and bus
+abbrev pub buses_below : Entry → Entry → Bool
+buses_below e f = ltb (e.segment * 256 + e.end_bus) (f.segment * 256 + f.start_bus)
+
+-- and so does its window
 abbrev pub below : Entry → Entry → Bool
-below e f =
-    ltb (e.segment * 256 + e.end_bus) (f.segment * 256 + f.start_bus)
-    && leb (bus_end e.base e.end_bus) (bus_start f.base f.start_bus)
+below e f = buses_below e f && leb (bus_end e.base e.end_bus) (bus_start f.base f.start_bus)
+
+-- the same, by the first and the last bytes of their windows
+abbrev pub seen_below : Entry → Entry → Bool
+seen_below e f = buses_below e f && ltb (last_byte e) (first_byte f)
 
 -- each entry is below the next
-abbrev pub rising : List Entry → Bool
-rising [] = true
-rising (e ∷ []) = true
-rising (e ∷ f ∷ l) = below e f && rising (f ∷ l)
+abbrev pub rising : (Entry → Entry → Bool) → List Entry → Bool
+rising p [] = true
+rising p (e ∷ []) = true
+rising p (e ∷ f ∷ l) = p e f && rising p (f ∷ l)

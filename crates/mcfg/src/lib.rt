@@ -1,12 +1,12 @@
 // The MCFG table: whether it is sound, its entries, and the entry that a row of the starting list lies inside.
 #![tactic(auto)]
 
-ghost use Rattle.std.specs.Prelude.{◌≡◌, true, ◌&&◌, suc, ◌+◌, ◌*◌, ◌≤◌, length};
+ghost use Rattle.std.specs.Prelude.{◌≡◌, ◌&&◌, ◌+◌, ◌*◌, ◌%◌, ◌^◌, map};
 ghost use Rattle.rules.specs.Lists.{every, pairwise};
-ghost use Rattle.rules.specs.Mcfg.{entries, entry_at, bus_start, bus_end, entry_sound, share_no_bus, share_no_byte, mcfg_sound};
+ghost use Rattle.rules.specs.Mcfg.{entries, bus_start, bus_end, entry_sound, share_no_bus, mcfg_sound};
 ghost use Rattle.rules.specs.Start.{inside, entry_of};
 ghost use Rattle.mcfg.specs.Found.{answer_of};
-ghost use Rattle.mcfg.specs.Rest.{header_sound, rest, apart, below, rising};
+ghost use Rattle.mcfg.specs.Rest.{header_sound, entry_in, first_byte, last_byte, windows_apart, seen_apart, seen_below, rising};
 
 use rules::constants::{BUS_BYTES, MAX_ENTRIES};
 use rules::{BridgeRow, Entry};
@@ -41,16 +41,25 @@ fn header_sound(m: &[u8]) -> bool
     words::byte_sum(m) == 0
 }
 
-// The entry at a byte.
-fn entry_at(m: &[u8], at: usize) -> Entry
-    requires { 16 + at ≤ length m.now }
-    ensures { result ≡ entry_at m.now at }
+// The records of the entries, 16 bytes each.
+fn records(m: &[u8]) -> &[[u8; 16]]
+    ensures { map entry_in result.now ≡ entries m.now }
+{
+    if m.len() < 44 {
+        return &[];
+    }
+    m[44..].as_chunks().0
+}
+
+// The entry of a record.
+fn entry_in(bytes: &[u8; 16]) -> Entry
+    ensures { result ≡ entry_in bytes.now }
 {
     Entry {
-        base: words::read64(m, at),
-        segment: words::read16(m, 8 + at),
-        start_bus: m[10 + at],
-        end_bus: m[11 + at],
+        base: words::read64(bytes, 0),
+        segment: words::read16(bytes, 8),
+        start_bus: bytes[10],
+        end_bus: bytes[11],
     }
 }
 
@@ -60,7 +69,7 @@ fn entry_sound(e: Entry) -> bool
 {
     (e.start_bus <= e.end_bus)
         & (e.base % BUS_BYTES == 0)
-        & (e.base <= (LAST_START - e.end_bus as u64) * BUS_BYTES)
+        & (e.base <= (LAST_START - u64::from(e.end_bus)) * BUS_BYTES)
 }
 
 // Entries of one segment share no bus.
@@ -73,123 +82,89 @@ fn share_no_bus(e: Entry, f: Entry) -> bool
     (e.end_bus < f.start_bus) | (f.end_bus < e.start_bus)
 }
 
-// The first byte of its window.
+// The first byte of its window, which is below 2^64 if the entry is sound.
 fn first_byte(e: Entry) -> u64
-    requires { entry_sound e ≡ true }
-    ensures { result ≡ bus_start e.base e.start_bus }
+    ensures { result ≡ first_byte e }
 {
-    e.base + e.start_bus as u64 * BUS_BYTES
+    e.base.wrapping_add(u64::from(e.start_bus) * BUS_BYTES)
 }
 
-// The last byte of its window, which is below 2^64.
+// The last byte of its window, which is below 2^64 if the entry is sound.
 fn last_byte(e: Entry) -> u64
-    requires { entry_sound e ≡ true }
-    ensures { suc result ≡ bus_end e.base e.end_bus }
+    ensures { result ≡ last_byte e }
 {
-    e.base + (e.end_bus as u64 * BUS_BYTES + (BUS_BYTES - 1))
+    e.base
+        .wrapping_add(u64::from(e.end_bus) * BUS_BYTES + (BUS_BYTES - 1))
 }
 
 // The windows of two entries share no byte.
 fn share_no_byte(e: Entry, f: Entry) -> bool
-    requires e_value { entry_sound e ≡ true }
-    requires f_value { entry_sound f ≡ true }
-    ensures { result ≡ share_no_byte e f }
+    ensures { result ≡ windows_apart e f }
 {
     (last_byte(e) < first_byte(f)) | (last_byte(f) < first_byte(e))
 }
 
 // Neither a bus nor a byte.
 fn apart(e: Entry, f: Entry) -> bool
-    requires e_value { entry_sound e ≡ true }
-    requires f_value { entry_sound f ≡ true }
-    ensures { result ≡ apart e f }
+    ensures { result ≡ seen_apart e f }
 {
-    if !share_no_bus(e, f) {
-        return false;
-    }
-    share_no_byte(e, f)
-}
-
-// Every entry is sound.
-#[tactic(auto, using(crate::proofs::Turns::turns))]
-fn entries_sound(m: &[u8]) -> bool
-    ensures { result ≡ every entry_sound (entries m.now) }
-{
-    let mut at: usize = 44;
-    while 16 + at <= m.len() {
-        if !entry_sound(entry_at(m, at)) {
-            return false;
-        }
-        at = 16 + at;
-    }
-    true
-}
-
-// An entry is apart from each from a byte to the end.
-#[tactic(auto, using(crate::proofs::Turns::turns))]
-fn apart_from_rest(m: &[u8], e: Entry, from: usize) -> bool
-    requires from_in_bounds { from ≤ length m.now }
-    requires e_value { entry_sound e ≡ true }
-    requires from_value { every entry_sound (rest m.now from) ≡ true }
-    ensures { result ≡ every (apart e) (rest m.now from) }
-{
-    let mut at = from;
-    while 16 + at <= m.len() {
-        if !apart(e, entry_at(m, at)) {
-            return false;
-        }
-        at = 16 + at;
-    }
-    true
-}
-
-// Each entry is apart from each later one.
-#[tactic(auto, using(crate::proofs::Turns::turns))]
-fn entries_apart(m: &[u8]) -> bool
-    requires { every entry_sound (entries m.now) ≡ true }
-    ensures { result ≡ (pairwise share_no_bus (entries m.now) && pairwise share_no_byte (entries m.now)) }
-{
-    let mut at: usize = 44;
-    while 16 + at <= m.len() {
-        if !apart_from_rest(m, entry_at(m, at), 16 + at) {
-            return false;
-        }
-        at = 16 + at;
-    }
-    true
+    share_no_bus(e, f) && share_no_byte(e, f)
 }
 
 // A bus among the buses of all segments, in their order.
 fn bus_number(segment: u16, bus: u8) -> u32
     ensures { result ≡ segment * 256 + bus }
 {
-    segment as u32 * 256 + bus as u32
+    u32::from(segment) * 256 + u32::from(bus)
 }
 
 // The buses and the window of one entry come before those of another.
 fn below(e: Entry, f: Entry) -> bool
-    requires e_value { entry_sound e ≡ true }
-    requires f_value { entry_sound f ≡ true }
-    ensures { result ≡ below e f }
+    ensures { result ≡ seen_below e f }
 {
     (bus_number(e.segment, e.end_bus) < bus_number(f.segment, f.start_bus))
         & (last_byte(e) < first_byte(f))
 }
 
-// Each entry is below the next.
-#[tactic(auto, using(crate::proofs::Turns::turns))]
-fn entries_rising(m: &[u8]) -> bool
-    requires { every entry_sound (entries m.now) ≡ true }
-    ensures { result ≡ rising (entries m.now) }
+// Every entry is sound.
+fn entries_sound(records: &[[u8; 16]]) -> bool
+    ensures { result ≡ every entry_sound (map entry_in records.now) }
 {
-    let mut at: usize = 44;
-    while 32 + at <= m.len() {
-        if !below(entry_at(m, at), entry_at(m, 16 + at)) {
+    records.iter().all(|record| entry_sound(entry_in(record)))
+}
+
+// An entry is apart from each of others.
+fn apart_from_all(e: Entry, others: &[[u8; 16]]) -> bool
+    ensures { result ≡ every (seen_apart e) (map entry_in others.now) }
+{
+    others.iter().all(|other| apart(e, entry_in(other)))
+}
+
+// Each entry is apart from each later one.
+fn entries_apart(records: &[[u8; 16]]) -> bool
+    ensures { result ≡ pairwise seen_apart (map entry_in records.now) }
+{
+    let mut rest = records;
+    while let Some((first, later)) = rest.split_first() {
+        if !apart_from_all(entry_in(first), later) {
             return false;
         }
-        at = 16 + at;
+        rest = later;
     }
     true
+}
+
+// Each entry is below the next.
+fn entries_rising(records: &[[u8; 16]]) -> bool
+    ensures { result ≡ rising seen_below (map entry_in records.now) }
+{
+    let Some((_, later)) = records.split_first() else {
+        return true;
+    };
+    records
+        .iter()
+        .zip(later)
+        .all(|(record, next)| below(entry_in(record), entry_in(next)))
 }
 
 // Whether a lent MCFG table is sound. Where each entry is below the next, each is below all later ones, and no more is compared.
@@ -199,13 +174,14 @@ pub fn sound(m: &[u8]) -> bool
     if !header_sound(m) {
         return false;
     }
-    if !entries_sound(m) {
+    let records = records(m);
+    if !entries_sound(records) {
         return false;
     }
-    if entries_rising(m) {
+    if entries_rising(records) {
         return true;
     }
-    entries_apart(m)
+    entries_apart(records)
 }
 
 // The row's buses lie inside this entry, of its segment.
@@ -216,17 +192,11 @@ fn lies_inside(row: BridgeRow, e: Entry) -> bool
 }
 
 // The first entry that a row lies inside.
-#[tactic(auto, using(crate::proofs::Turns::turns))]
 pub fn entry_of(m: &[u8], row: BridgeRow) -> Option<Entry>
     ensures { result ≡ answer_of (entry_of (entries m.now) row) }
 {
-    let mut at: usize = 44;
-    while 16 + at <= m.len() {
-        let e = entry_at(m, at);
-        if lies_inside(row, e) {
-            return Some(e);
-        }
-        at = 16 + at;
-    }
-    None
+    records(m)
+        .iter()
+        .map(entry_in)
+        .find(|e| lies_inside(row, *e))
 }
