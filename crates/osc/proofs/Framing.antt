@@ -1,18 +1,15 @@
 -- What a framed call has, and its answer, recognised or not.
-use Prim.Native.Nat.{ℕ, ◌*◌, ◌-◌, ◌%◌, ◌≤◌}
+use Prim.Native.Nat.{ℕ, ◌*◌, ◌%◌, ◌≤◌}
 use mathlib.Core.Path.{◌≡◌}
 use mathlib.Core.Bool.{true, false, not, ◌&&◌}
-use mathlib.Core.List.{List, ◌++◌}
+use mathlib.Core.List.{List}
 use native.Mathlib.Omega.{arith}
 use lib.Dec.{eqb, ltb}
-use lib.ListN.{length, replicate}
+use lib.ListN.{length}
 use borrow.Author.Tests.{eqb-true, eqb-false, ltb-false, not-false}
-use Rattle.rules.specs.Numbers.{le32, same_bytes}
-use Rattle.rules.specs.Osc.{uuid_bytes, framing_bad, recognised, error_status, osc_answer, osc_after}
-use Rattle.rules.specs.Tables.{holding}
-use Rattle.rules.specs.declared.Bridge.{Bridge}
+use Rattle.rules.specs.Numbers.{same_bytes}
+use Rattle.rules.specs.Osc.{uuid_bytes, framing_bad, recognised}
 use Rattle.rules.proofs.Tests.{or_false, and-true}
-use Rattle.osc.specs.Capabilities.{dwords_of, bytes_of, answered, after}
 
 -- a call that refusal 3 does not meet
 pub record Framed (count : ℕ) (caps answer : List ℕ) : Type 0 where
@@ -49,22 +46,4 @@ three revision count uuid n e l =
     let c = eqb-true count 3 (and-true (same_bytes uuid uuid_bytes && eqb revision 1) (eqb count 3) e).1 in
     omega arith
 
-module _ (b : Bridge) (revision count : ℕ) (uuid caps : List ℕ) where
-  -- a recognised call: status, support and the granted bits, which join the held ones where it is no query
-  pub call_answer : recognised revision count uuid ≡ true → bytes_of (answered b (dwords_of caps)) ≡ osc_answer b revision count uuid caps
-  unfolding osc_answer
-  call_answer e = rw e
-
-  pub call_after : recognised revision count uuid ≡ true → after b (dwords_of caps) ≡ osc_after b revision count uuid caps
-  unfolding osc_after
-  call_after e = rw e
-
-  -- an error: its status, zeros, and nothing added
-  pub error_answer : (status n : ℕ) → recognised revision count uuid ≡ false → status ≡ error_status revision uuid → n ≡ 4 * count
-      → le32 status ++ replicate (n - 4) 0 ≡ osc_answer b revision count uuid caps
-  unfolding osc_answer
-  error_answer status n r e l = rw (r, e, l)
-
-  pub error_after : recognised revision count uuid ≡ false → holding b ≡ osc_after b revision count uuid caps
-  unfolding osc_after
-  error_after r = rw r
+pub ruleset framing = (framed, some_to_8, three)

@@ -1,7 +1,7 @@
 -- The masks of the code give the granted set of each edition.
 use Prim.Native.Nat.{ℕ}
 use mathlib.Core.Path.{◌≡◌, refl, ap, ◌∙◌}
-use mathlib.Core.Bool.{Bool, true, false, cond, ◌&&◌}
+use mathlib.Core.Bool.{Bool, true, false, cond, not, ◌&&◌}
 use mathlib.Core.List.{List}
 use lib.Bits.{bit_and, bit_or}
 use lib.Dec.{eqb}
@@ -12,8 +12,11 @@ use Rattle.codes.specs.declared.Edition.TheVariants.{V3_0, V3_3}
 use Rattle.rules.specs.Numbers.{bit, within, number}
 use Rattle.rules.specs.Granting.{Needs, needs_of, granted_by}
 use Rattle.rules.specs.Editions.{controls30, controls33, control_bits, known_control, known_support}
+use Rattle.rules.specs.Osc.{declared, granted}
+use Rattle.rules.specs.declared.Bridge.{Bridge}
 use Rattle.rules.proofs.Tests.{and_off}
-use Rattle.rules.proofs.Bits.{bit_and_lem}
+use Rattle.rules.proofs.Bits.{bit_and_lem, mask_test}
+use Rattle.std.proofs.lemmas.Nat.{and_comm}
 use Rattle.rules.proofs.Sets.{bit_number, within_or}
 use Rattle.rules.proofs.OnePass.{closed, by_masks}
 use Rattle.osc.specs.Needs.{controls, needs_met, supports_met}
@@ -76,13 +79,17 @@ granted_lem e p h u r k s m known supported met = by_masks l (is_closed e) p h u
     l = controls e
 
 -- what a number says of an edition, the edition of that number says
-pub controls_of : (n : ℕ) → controls (edition_of n) ≡ control_bits n
+controls_of : (n : ℕ) → controls (edition_of n) ≡ control_bits n
 unfolding control_bits
 controls_of n = go (eqb n 1)
   where
     go : (t : Bool) → control_bits (edition_number (cond t V3_3 V3_0)) ≡ cond t controls33 controls30
     go true = refl
     go false = refl
+
+pub granted_as : (b : Bridge) (e : Edition) (w r : ℕ) → e ≡ edition_of b.edition → granted_by (controls e) b.permitted b.held (declared b w) r ≡ granted b w r
+unfolding granted
+granted_as b e w r i = ap (λ (l : List Needs). granted_by l b.permitted b.held (declared b w) r) (ap controls i ∙ controls_of b.edition)
 
 pub support_of : (n : ℕ) → known_support (edition_number (edition_of n)) ≡ known_support n
 unfolding known_support
@@ -91,3 +98,11 @@ support_of n = go (eqb n 1)
     go : (t : Bool) → known_support (edition_number (cond t V3_3 V3_0)) ≡ cond t 0x1FF 0x1F
     go true = refl
     go false = refl
+
+-- the query flag
+pub query_test : (x : ℕ) → not (eqb (bit_and x 1) 0) ≡ bit x 0
+query_test x = mask_test x 0
+
+pub ruleset needs = (met_30, met_33, free_33, and_comm)
+
+pub ruleset supports = (supports_30, supports_33)

@@ -124,6 +124,7 @@ fn met(set: u32, needs: u32, bits: u32) -> u32
 }
 
 // The control bits whose needed control bits are available. Edition 3.0: 0, 2 and 3 need bit 4. Edition 3.3: 0, 1, 2, 5 and 8 need bit 4; 3 needs 4 and 7; 7 needs 3 and 4.
+#[tactic(auto, using(crate::proofs::Masks::needs))]
 fn needs_met(edition: Edition, available: u32) -> u32
     ensures { result ≡ needs_met (controls edition) available }
 {
@@ -142,6 +143,7 @@ fn needs_met(edition: Edition, available: u32) -> u32
 }
 
 // The control bits whose needed support bits are declared. Edition 3.0: all. Edition 3.3: bit 7 needs support bit 7.
+#[tactic(auto, using(crate::proofs::Masks::supports))]
 fn supports_met(edition: Edition, declared: u32) -> u32
     ensures { result ≡ supports_met (controls edition) declared }
 {
@@ -153,6 +155,7 @@ fn supports_met(edition: Edition, declared: u32) -> u32
 }
 
 // The granted bits by the masks of an edition. What the bits that a bit needs need in turn is needed by it too, or is itself, so one look at the available bits is enough.
+#[tactic(auto, using(crate::proofs::Masks::granted_lem))]
 fn granted(edition: Edition, permitted: u32, held: u32, declared: u32, requested: u32) -> u32
     ensures { result ≡ granted_by (controls edition) permitted held declared requested }
 {
@@ -162,6 +165,7 @@ fn granted(edition: Edition, permitted: u32, held: u32, declared: u32, requested
 }
 
 // The support bits declared to a bridge: by earlier calls, and the known ones of this one.
+#[tactic(auto, using(crate::proofs::Masks::support_of))]
 fn declared(b: Bridge, support: u32) -> u32
     ensures { result ≡ declared b support }
 {
@@ -221,6 +225,8 @@ impl Capabilities {
     }
 
     // Whether the query flag is set.
+
+    #[tactic(auto, using(crate::proofs::Masks::query_test))]
     fn is_query(self) -> bool
         ensures { result ≡ bit self.status 0 }
     {
@@ -228,6 +234,7 @@ impl Capabilities {
     }
 
     // The answer: the status, the support DWORD as it came, the granted bits.
+    #[tactic(auto, using(rules::proofs::Granting::granted_within))]
     fn answered(self, b: Bridge) -> Capabilities
         ensures { result ≡ answered b self }
     {
@@ -304,6 +311,7 @@ impl Request<'_> {
     }
 
     // An _OSC call that none of 1, 2 and 3 refuses: the answer buffer is filled; what the bridge holds after it is handed back.
+    #[tactic(auto, using(crate::proofs::Framing::framing), unfolding(rules::specs::Osc::osc_answer, rules::specs::Osc::osc_after))]
     pub fn respond(self, b: Bridge, answer: &mut [u8]) -> Holding
         requires { framing_bad self.count self.uuid.now self.caps.now answer.old ≡ false }
         ensures { (answer.new ≡ osc_answer b self.entry.revision self.entry.count self.entry.uuid.now self.entry.caps.now)
