@@ -2,12 +2,14 @@
 // the number that came, and what came beside it. A line in brackets names what the numbers of the lines after it are.
 #![tactic(auto)]
 
-fn main() {
-    start_limits::lines();
-    place_limits::lines();
-    osc_limits::lines();
-    edition_limits::lines();
-    record_limits::lines();
-    rom_limits::lines();
-    writer_limits::lines();
+use std::io;
+
+fn main(rt: HostRuntime) -> io::Result<()> {
+    start_limits::lines(&rt)?;
+    place_limits::lines(&rt)?;
+    osc_limits::lines(&rt)?;
+    edition_limits::lines(&rt)?;
+    record_limits::lines(&rt)?;
+    rom_limits::lines(&rt)?;
+    writer_limits::lines(&rt)
 }

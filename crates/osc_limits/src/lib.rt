@@ -1,26 +1,20 @@
 // The limits of _OSC, reset and report. fixtures::three_bridges says whose bridges there are.
 #![tactic(auto)]
 
-ghost use Rattle.rules.specs.Start.{Sound};
-
-use rules::{BridgeNumber, SessionNumber, Table};
+use fixtures::SoundTable;
+use rules::{BridgeNumber, Holding, SessionNumber};
+use std::io;
 
 mod framing;
 mod granting;
 
-// What bridge 0 holds, and the end of the line.
-fn holds(t: Table)
-    requires { Sound t }
-{
-    let r = bridges::report(t, SessionNumber(1), BridgeNumber(0));
-    print::hexes(
-        b", holds",
-        &[r.holding.held as u64, r.holding.supported as u64],
-    );
-    print::end();
+// What bridge 0 holds.
+fn held(t: &SoundTable) -> Holding {
+    t.report(SessionNumber(1), BridgeNumber(0))
+        .unwrap_or_default()
 }
 
-pub fn lines() {
-    framing::lines();
-    granting::lines();
+pub fn lines(rt: &impl Print) -> io::Result<()> {
+    framing::lines(rt)?;
+    granting::lines(rt)
 }

@@ -1,70 +1,33 @@
-// What the programs' lines are made of, written to standard output.
+// What the programs' lines are made of, beside what the library prints: bytes in fours, lists of numbers.
 #![tactic(auto)]
 
-pub fn text(b: &[u8]) {
-    io::write_all(1, b);
-}
+use std::fmt;
 
-pub fn decimal(before: &[u8], n: u64) {
-    text(before);
-    io::print_decimal(1, n);
-}
+// Bytes as stored, in fours, each with a space before them.
+#[derive(Clone, Copy)]
+pub struct Fours<'a>(pub &'a [u8]);
 
-// With so many digits at least.
-pub fn hex(before: &[u8], n: u64, width: usize) {
-    text(before);
-    text(b"0x");
-    io::print_hex(1, n, width);
-}
-
-fn number(n: u64, in_hex: bool) {
-    if in_hex {
-        hex(b" ", n, 1);
-    } else {
-        decimal(b" ", n);
-    }
-}
-
-fn numbers(words: &[u8], n: &[u64], in_hex: bool) {
-    text(words);
-    let mut i = 0;
-    while i < n.len() {
-        number(n[i], in_hex);
-        i += 1;
-    }
-}
-
-// Words, and numbers behind them, each with a space before it.
-pub fn decimals(words: &[u8], n: &[u64]) {
-    numbers(words, n, false);
-}
-
-pub fn hexes(words: &[u8], n: &[u64]) {
-    numbers(words, n, true);
-}
-
-fn byte(n: u8) {
-    io::print_hex(1, n as u64, 2);
-}
-
-// Words, and bytes as stored, in fours, each with a space before them.
-pub fn bytes(words: &[u8], b: &[u8]) {
-    text(words);
-    let mut i = 0;
-    while i < b.len() {
-        if i % 4 == 0 {
-            text(b" ");
+impl fmt::Display for Fours<'_> {
+    fn fmt<W: fmt::Write>(&self, f: &mut fmt::Formatter<W>) -> fmt::Result {
+        for (i, b) in self.0.iter().enumerate() {
+            if i % 4 == 0 {
+                f.write_str(" ")?;
+            }
+            write!(f, "{b:02x}")?;
         }
-        byte(b[i]);
-        i += 1;
+        Ok(())
     }
 }
 
-// The number that came.
-pub fn came(n: u8) {
-    decimal(b": ", n as u64);
-}
+// Numbers in base 16, each with a space before it.
+#[derive(Clone, Copy)]
+pub struct Hexes<'a>(pub &'a [u32]);
 
-pub fn end() {
-    text(b"\n");
+impl fmt::Display for Hexes<'_> {
+    fn fmt<W: fmt::Write>(&self, f: &mut fmt::Formatter<W>) -> fmt::Result {
+        for n in self.0 {
+            write!(f, " {n:#x}")?;
+        }
+        Ok(())
+    }
 }

@@ -1,10 +1,13 @@
 // The limits of record blocks, the record search and register values.
 #![tactic(auto)]
 
+use std::io;
+
 mod blocks;
 mod registers;
 
-pub fn lines() {
-    blocks::lines();
-    registers::lines();
+pub fn lines(rt: &impl Print) -> io::Result<()> {
+    blocks::lines(rt)?;
+    registers::lines(rt)?;
+    Ok(())
 }

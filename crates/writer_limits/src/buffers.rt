@@ -1,205 +1,162 @@
 // The buffer's length, the records that are present, and which refusal comes first: "number 15 when the buffer is too short for the result; 14 first".
 ghost use Rattle.std.specs.Prelude.{◌<◌, ◌≤◌};
 
-use crate::writing::{came, settings, with_masks, write};
+use crate::writing::{Flags, settings, with_masks, write};
 use rules::{Masks, PciSetting, PciXSetting, Settings};
+use std::io;
 
-// 1 for a byte that is not 0xaa.
-fn one_if_changed(x: u8) -> usize
-    ensures { result ≤ 1 }
-{
-    if x == 0xaa {
-        return 0;
-    }
-    1
-}
-
-// How many bytes are not 0xaa.
-fn changed(b: &[u8]) -> usize {
-    let mut n = 0;
-    let mut i = 0;
-    while i < b.len() {
-        n += one_if_changed(b[i]);
-        i += 1;
-    }
-    n
-}
-
-// The number, the length, and how many of the 128 bytes are changed.
-fn counted(s: Settings, lent: usize)
+// The end of a line: the number, the length, and how many of the 128 bytes are not 0xaa.
+fn counted(rt: &impl Print, s: Settings, lent: usize) -> io::Result<()>
     requires { lent ≤ 128 }
 {
     let l = write(s, lent);
-    came(l);
-    print::decimal(b", changed ", changed(&l.bytes) as u64);
-    print::end();
+    let changed = l.bytes.iter().filter(|b| **b != 0xaa).count();
+    println!(rt; ": {l}, changed {changed}")
 }
 
 // Flags, and bytes lent.
-fn records(pci: u8, pci_x: u8, express: u8, lent: usize)
+fn records(rt: &impl Print, flags: Flags, lent: usize) -> io::Result<()>
     requires { lent ≤ 128 }
 {
-    print::decimals(
-        b"records",
-        &[pci as u64, pci_x as u64, express as u64, lent as u64],
-    );
-    counted(settings(pci, pci_x, express), lent);
+    print!(rt; "records {flags} {lent}")?;
+    counted(rt, settings(flags), lent)
 }
 
-// The values of one type break their ranges.
-fn bad_pci(mut s: Settings) -> Settings {
-    let pci = PciSetting {
-        cache_line_size: 256,
-        latency_timer: 256,
-        enable_serr: 2,
-        enable_perr: 2,
-    };
-    s.pci = pci;
-    s
-}
-
-fn bad_pci_x(mut s: Settings) -> Settings {
-    let pci_x = PciXSetting {
-        maximum_memory_read_byte_count: 4,
-        average_maximum_outstanding_split_transactions: 8,
-        total_maximum_outstanding_split_transactions: 8,
-    };
-    s.pci_x = pci_x;
-    s
-}
-
-fn bad_express(mut s: Settings) -> Settings {
-    let e = fixtures::express([Masks {
-        and: 0x1_0000,
-        or: 0x1_0000,
-    }; 8]);
-    s.express = e;
-    s
-}
-
-fn bad_settings(record_type: u8, s: Settings) -> Settings {
+// The settings, where the values of one type break their ranges.
+fn broken(record_type: u8, s: Settings) -> Settings {
     match record_type {
-        0 => bad_pci(s),
-        1 => bad_pci_x(s),
-        _ => bad_express(s),
+        0 => Settings {
+            pci: PciSetting {
+                cache_line_size: 256,
+                latency_timer: 256,
+                enable_serr: 2,
+                enable_perr: 2,
+            },
+            ..s
+        },
+        1 => Settings {
+            pci_x: PciXSetting {
+                maximum_memory_read_byte_count: 4,
+                average_maximum_outstanding_split_transactions: 8,
+                total_maximum_outstanding_split_transactions: 8,
+            },
+            ..s
+        },
+        _ => Settings {
+            express: fixtures::express([Masks {
+                and: 0x1_0000,
+                or: 0x1_0000,
+            }; 8]),
+            ..s
+        },
     }
 }
 
-// What is wrong, and where; the flags and the bytes lent.
-fn wrong(words: &[u8], at: u64, pci: u8, pci_x: u8, express: u8, lent: usize) {
-    print::decimals(
-        words,
-        &[at, pci as u64, pci_x as u64, express as u64, lent as u64],
-    );
-}
-
-fn bad(record_type: u8, pci: u8, pci_x: u8, express: u8, lent: usize)
+fn bad(rt: &impl Print, record_type: u8, flags: Flags, lent: usize) -> io::Result<()>
     requires { lent ≤ 128 }
 {
-    wrong(b"bad", record_type as u64, pci, pci_x, express, lent);
-    counted(
-        bad_settings(record_type, settings(pci, pci_x, express)),
-        lent,
-    );
+    print!(rt; "bad {record_type} {flags} {lent}")?;
+    counted(rt, broken(record_type, settings(flags)), lent)
 }
 
 // Register k has a senseless pair: bit 0 is clear in AND and set in OR.
-fn senseless(k: usize, pci: u8, pci_x: u8, express: u8, lent: usize)
+fn senseless(rt: &impl Print, k: usize, flags: Flags, lent: usize) -> io::Result<()>
     requires { (k < 8) × (lent ≤ 128) }
 {
-    wrong(b"senseless", k as u64, pci, pci_x, express, lent);
-    counted(
-        with_masks(settings(pci, pci_x, express), k, 0xfe, 0xf),
-        lent,
-    );
+    print!(rt; "senseless {k} {flags} {lent}")?;
+    counted(rt, with_masks(settings(flags), k, 0xfe, 0xf), lent)
 }
 
 // Each register in turn, with room for all three records.
-fn each_senseless(express: u8) {
-    let mut k = 0;
-    while k < 8 {
-        senseless(k, 1, 1, express, 113);
-        k += 1;
+fn each_senseless(rt: &impl Print, express: u8) -> io::Result<()> {
+    for k in 0..8 {
+        senseless(rt, k, Flags(1, 1, express), 113)?;
     }
+    Ok(())
 }
 
 // "hands back their length"; "leaving the rest untouched"
-fn lengths() {
-    records(1, 1, 1, 113);
-    records(1, 1, 1, 112);
-    records(1, 1, 1, 114);
-    records(1, 1, 1, 128);
-    records(1, 1, 1, 0);
-    records(1, 0, 0, 23);
-    records(1, 0, 0, 22);
-    records(0, 1, 0, 19);
-    records(0, 1, 0, 18);
-    records(0, 0, 1, 71);
-    records(0, 0, 1, 70);
-    records(1, 1, 0, 42);
-    records(1, 1, 0, 41);
-    records(1, 0, 1, 94);
-    records(1, 0, 1, 93);
-    records(0, 1, 1, 90);
-    records(0, 1, 1, 89);
+fn lengths(rt: &impl Print) -> io::Result<()> {
+    records(rt, Flags(1, 1, 1), 113)?;
+    records(rt, Flags(1, 1, 1), 112)?;
+    records(rt, Flags(1, 1, 1), 114)?;
+    records(rt, Flags(1, 1, 1), 128)?;
+    records(rt, Flags(1, 1, 1), 0)?;
+    records(rt, Flags(1, 0, 0), 23)?;
+    records(rt, Flags(1, 0, 0), 22)?;
+    records(rt, Flags(0, 1, 0), 19)?;
+    records(rt, Flags(0, 1, 0), 18)?;
+    records(rt, Flags(0, 0, 1), 71)?;
+    records(rt, Flags(0, 0, 1), 70)?;
+    records(rt, Flags(1, 1, 0), 42)?;
+    records(rt, Flags(1, 1, 0), 41)?;
+    records(rt, Flags(1, 0, 1), 94)?;
+    records(rt, Flags(1, 0, 1), 93)?;
+    records(rt, Flags(0, 1, 1), 90)?;
+    records(rt, Flags(0, 1, 1), 89)?;
+    Ok(())
 }
 
 // "at most one record of each known type": none of them, and any flag but 0
-fn flags() {
-    records(0, 0, 0, 0);
-    records(0, 0, 0, 1);
-    records(0, 0, 0, 128);
-    records(255, 0, 0, 128);
-    records(0, 255, 0, 128);
-    records(0, 0, 255, 128);
-    records(2, 128, 255, 113);
-    records(2, 128, 255, 112);
+fn flags(rt: &impl Print) -> io::Result<()> {
+    records(rt, Flags(0, 0, 0), 0)?;
+    records(rt, Flags(0, 0, 0), 1)?;
+    records(rt, Flags(0, 0, 0), 128)?;
+    records(rt, Flags(255, 0, 0), 128)?;
+    records(rt, Flags(0, 255, 0), 128)?;
+    records(rt, Flags(0, 0, 255), 128)?;
+    records(rt, Flags(2, 128, 255), 113)?;
+    records(rt, Flags(2, 128, 255), 112)?;
+    Ok(())
 }
 
 // "14 first"; the values of a record that is not there count for nothing
-fn orders() {
-    bad(0, 1, 1, 1, 128);
-    bad(0, 1, 1, 1, 112);
-    bad(0, 1, 1, 1, 0);
-    bad(1, 1, 1, 1, 128);
-    bad(1, 1, 1, 1, 112);
-    bad(1, 1, 1, 1, 0);
-    bad(2, 1, 1, 1, 128);
-    bad(2, 1, 1, 1, 112);
-    bad(2, 1, 1, 1, 0);
-    bad(0, 255, 0, 0, 22);
-    bad(1, 0, 255, 0, 18);
-    bad(2, 0, 0, 255, 70);
-    bad(0, 0, 1, 1, 128);
-    bad(0, 0, 1, 1, 89);
-    bad(1, 1, 0, 1, 128);
-    bad(1, 1, 0, 1, 93);
-    bad(2, 1, 1, 0, 128);
-    bad(2, 1, 1, 0, 41);
-    bad(0, 0, 0, 0, 0);
+fn orders(rt: &impl Print) -> io::Result<()> {
+    bad(rt, 0, Flags(1, 1, 1), 128)?;
+    bad(rt, 0, Flags(1, 1, 1), 112)?;
+    bad(rt, 0, Flags(1, 1, 1), 0)?;
+    bad(rt, 1, Flags(1, 1, 1), 128)?;
+    bad(rt, 1, Flags(1, 1, 1), 112)?;
+    bad(rt, 1, Flags(1, 1, 1), 0)?;
+    bad(rt, 2, Flags(1, 1, 1), 128)?;
+    bad(rt, 2, Flags(1, 1, 1), 112)?;
+    bad(rt, 2, Flags(1, 1, 1), 0)?;
+    bad(rt, 0, Flags(255, 0, 0), 22)?;
+    bad(rt, 1, Flags(0, 255, 0), 18)?;
+    bad(rt, 2, Flags(0, 0, 255), 70)?;
+    bad(rt, 0, Flags(0, 1, 1), 128)?;
+    bad(rt, 0, Flags(0, 1, 1), 89)?;
+    bad(rt, 1, Flags(1, 0, 1), 128)?;
+    bad(rt, 1, Flags(1, 0, 1), 93)?;
+    bad(rt, 2, Flags(1, 1, 0), 128)?;
+    bad(rt, 2, Flags(1, 1, 0), 41)?;
+    bad(rt, 0, Flags(0, 0, 0), 0)?;
+    Ok(())
 }
 
 // Document 02, h: 14 before 15; the masks of a type 2 record that is not there count for nothing
-fn senseless_pairs() {
-    each_senseless(1);
-    each_senseless(0);
-    senseless(0, 1, 1, 1, 112);
-    senseless(7, 0, 0, 1, 71);
-    senseless(7, 0, 0, 1, 70);
-    senseless(7, 0, 0, 255, 0);
-    senseless(7, 1, 1, 0, 42);
-    senseless(7, 1, 1, 0, 41);
-    senseless(7, 0, 0, 0, 0);
+fn senseless_pairs(rt: &impl Print) -> io::Result<()> {
+    each_senseless(rt, 1)?;
+    each_senseless(rt, 0)?;
+    senseless(rt, 0, Flags(1, 1, 1), 112)?;
+    senseless(rt, 7, Flags(0, 0, 1), 71)?;
+    senseless(rt, 7, Flags(0, 0, 1), 70)?;
+    senseless(rt, 7, Flags(0, 0, 255), 0)?;
+    senseless(rt, 7, Flags(1, 1, 0), 42)?;
+    senseless(rt, 7, Flags(1, 1, 0), 41)?;
+    senseless(rt, 7, Flags(0, 0, 0), 0)?;
+    Ok(())
 }
 
-pub fn lines() {
-    print::text(
-        b"(records: flags of types 0, 1 and 2, bytes lent; how many of 128 bytes of 0xaa are changed)\n",
-    );
-    lengths();
-    flags();
-    print::text(b"(bad: type whose values break their ranges; then the same)\n");
-    orders();
-    print::text(b"(senseless: register whose pair it is; then the same)\n");
-    senseless_pairs();
+pub fn lines(rt: &impl Print) -> io::Result<()> {
+    println!(rt;
+        "(records: flags of types 0, 1 and 2, bytes lent; how many of 128 bytes of 0xaa are changed)"
+    )?;
+    lengths(rt)?;
+    flags(rt)?;
+    println!(rt; "(bad: type whose values break their ranges; then the same)")?;
+    orders(rt)?;
+    println!(rt; "(senseless: register whose pair it is; then the same)")?;
+    senseless_pairs(rt)?;
+    Ok(())
 }

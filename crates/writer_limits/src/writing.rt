@@ -1,29 +1,39 @@
 // A call of the writer, what it is given, and what it leaves.
 ghost use Rattle.std.specs.Prelude.{◌<◌, ◌≤◌};
 
+use codes::Refusal;
+use print::Fours;
 use rules::{Masks, Settings};
+use std::fmt;
 
 // The bytes of a buffer; the first ones are lent, and each is 0xaa before the call. No record below has such a byte.
 pub const ROOM: usize = 128;
 
-// The number, the length, and the buffer.
+// What the call gave, and the buffer.
 #[derive(Clone, Copy)]
 pub struct Left {
-    pub number: u8,
-    pub length: usize,
+    pub outcome: Result<usize, Refusal>,
     pub bytes: [u8; ROOM],
+}
+
+// The number and the length, which is 0 where the call is refused.
+impl fmt::Display for Left {
+    fn fmt<W: fmt::Write>(&self, f: &mut fmt::Formatter<W>) -> fmt::Result {
+        write!(
+            f,
+            "{}, length {}",
+            codes::number(self.outcome),
+            self.outcome.unwrap_or(0)
+        )
+    }
 }
 
 pub fn write(s: Settings, lent: usize) -> Left
     requires { lent ≤ 128 }
 {
     let mut bytes = [0xaa; ROOM];
-    let w = writer::write_records(s, &mut bytes[0..lent]);
-    Left {
-        number: w.number,
-        length: w.length,
-        bytes,
-    }
+    let outcome = writer::write_records(s, &mut bytes[..lent]);
+    Left { outcome, bytes }
 }
 
 fn pair(and: u32, or: u32) -> Masks {
@@ -45,38 +55,48 @@ fn different_masks() -> [Masks; 8] {
     ]
 }
 
+// Which records are present: the flags of types 0, 1 and 2.
+#[derive(Clone, Copy)]
+pub struct Flags(pub u8, pub u8, pub u8);
+
+impl fmt::Display for Flags {
+    fn fmt<W: fmt::Write>(&self, f: &mut fmt::Formatter<W>) -> fmt::Result {
+        write!(f, "{} {} {}", self.0, self.1, self.2)
+    }
+}
+
 // The type 0 and type 1 records of the example of document 002 and a type 2 record with these masks, by their flags.
-pub fn settings(pci: u8, pci_x: u8, express: u8) -> Settings {
-    let mut s = fixtures::example_settings();
-    let e = fixtures::express(different_masks());
-    s.express = e;
-    s.has_pci = pci;
-    s.has_pci_x = pci_x;
-    s.has_express = express;
-    s
+pub fn settings(flags: Flags) -> Settings {
+    Settings {
+        express: fixtures::express(different_masks()),
+        has_pci: flags.0,
+        has_pci_x: flags.1,
+        has_express: flags.2,
+        ..fixtures::example_settings()
+    }
 }
 
 // The settings with other masks of register k.
-pub fn with_masks(mut s: Settings, k: usize, and: u32, or: u32) -> Settings
+pub fn with_masks(s: Settings, k: usize, and: u32, or: u32) -> Settings
     requires { k < 8 }
 {
     let mut m = different_masks();
     m[k] = pair(and, or);
-    let e = fixtures::express(m);
-    s.express = e;
-    s
-}
-
-// The number and the length.
-pub fn came(l: Left) {
-    print::came(l.number);
-    print::decimal(b", length ", l.length as u64);
+    Settings {
+        express: fixtures::express(m),
+        ..s
+    }
 }
 
 // A record, or the bytes in its place: tag and length, then fours.
-pub fn record(b: &[u8]) {
-    if 3 <= b.len() {
-        print::bytes(b",", &b[0..3]);
-        print::bytes(b"", &b[3..]);
+#[derive(Clone, Copy)]
+pub struct Record<'a>(pub &'a [u8]);
+
+impl fmt::Display for Record<'_> {
+    fn fmt<W: fmt::Write>(&self, f: &mut fmt::Formatter<W>) -> fmt::Result {
+        match self.0.split_at_checked(3) {
+            Some((head, value)) => write!(f, ",{}{}", Fours(head), Fours(value)),
+            None => Ok(()),
+        }
     }
 }
