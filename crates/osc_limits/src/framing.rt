@@ -58,7 +58,7 @@ fn by(rt: &impl Print, session: u8, bridge: u8, uuid: &[u8]) -> io::Result<()> {
         revision: 1,
         count: 3,
         uuid,
-        caps: &CAPABILITIES[..12],
+        caps: CAPABILITIES.split_at(12).0,
     };
     print!(rt; "by {session} {bridge} {}", uuid.len())?;
     answered(rt, session, bridge, request, &mut [0xaa; 12])

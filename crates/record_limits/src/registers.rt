@@ -99,7 +99,7 @@ fn by(rt: &impl Print, session: u8, bridge: u8, current: &[u32], block: &[u8]) -
 
 fn held(rt: &impl Print, control: u32) -> io::Result<()> {
     print!(rt; "held {control:#x}")?;
-    asked(rt, control, b"", &block(), &current(8, 0)[..8])
+    asked(rt, control, b"", &block(), current(8, 0).split_at(8).0)
 }
 
 // So many registers.
@@ -115,7 +115,7 @@ fn register(rt: &impl Print, k: usize, value: u32) -> io::Result<()>
     requires { k < 8 }
 {
     print!(rt; "register {k} {value:#x}")?;
-    asked(rt, 0x11, b"", &block(), &current(k, value)[..8])
+    asked(rt, 0x11, b"", &block(), current(k, value).split_at(8).0)
 }
 
 // Register k has a senseless pair; bridge 0 holds these bits.
@@ -123,7 +123,13 @@ fn senseless(rt: &impl Print, k: usize, control: u32) -> io::Result<()>
     requires { k < 8 }
 {
     print!(rt; "senseless {k} {control:#x}")?;
-    asked(rt, control, b"", &senseless_block(k), &current(8, 0)[..8])
+    asked(
+        rt,
+        control,
+        b"",
+        &senseless_block(k),
+        current(8, 0).split_at(8).0,
+    )
 }
 
 // Each register in turn.
@@ -137,7 +143,7 @@ fn each_senseless(rt: &impl Print, control: u32) -> io::Result<()> {
 // These blocks.
 fn blocks<'a>(rt: &impl Print, words: &str, slot: &'a [u8], block: &'a [u8]) -> io::Result<()> {
     print!(rt; "{words}")?;
-    asked(rt, 0x11, slot, block, &current(8, 0)[..8])
+    asked(rt, 0x11, slot, block, current(8, 0).split_at(8).0)
 }
 
 // Every register has this value, and the record the same pair for each; bridge 0 holds these bits.

@@ -19,7 +19,7 @@ fn asked(rt: &impl Print, vendor: u32, device: u32, code_type: u32) -> io::Resul
     print!(rt; "asked {vendor:#x} {device:#x} {code_type:#x}")?;
     search(
         rt,
-        &fixtures::two_images()[..1024],
+        fixtures::two_images().split_at(1024).0,
         vendor,
         device,
         code_type,
@@ -33,7 +33,7 @@ fn byte(rt: &impl Print, at: usize, value: u8, code_type: u32) -> io::Result<()>
     let mut rom = fixtures::two_images();
     rom[at] = value;
     print!(rt; "byte {at} {value} {code_type}")?;
-    search(rt, &rom[..1024], 0x10ec, 0x8139, code_type)
+    search(rt, rom.split_at(1024).0, 0x10ec, 0x8139, code_type)
 }
 
 // So many bytes of the two images, and zeros behind them.

@@ -30,27 +30,25 @@ fn byte(rt: &impl Print, at: usize, value: u8) -> io::Result<()>
     let mut m = sound(1);
     m[at] = value;
     fixtures::seal(&mut m, 60);
-    println!(rt; "byte {at} {value}: {}", judged(&m[..60]))
+    println!(rt; "byte {at} {value}: {}", judged(m.split_at(60).0))
 }
 
 // A sound table of 60 bytes, but that the sum of all bytes is so much more than a multiple of 256.
-pub fn with_sum(more: u8) -> [u8; 60] {
-    let m = sound(1);
-    let mut b = [0; 60];
-    b.copy_from_slice(&m[..60]);
-    b[9] = b[9].wrapping_add(more);
-    b
+pub fn with_sum(more: u8) -> [u8; MCFG_ROOM] {
+    let mut m = sound(1);
+    m[9] = m[9].wrapping_add(more);
+    m
 }
 
 fn sum(rt: &impl Print, more: u8) -> io::Result<()> {
-    println!(rt; "sum {more}: {}", judged(&with_sum(more)))
+    println!(rt; "sum {more}: {}", judged(with_sum(more).split_at(60).0))
 }
 
 // The table of 44 bytes, with this checksum: the others sum to 330.
 fn checksum(rt: &impl Print, value: u8) -> io::Result<()> {
     let mut m = sound(0);
     m[9] = value;
-    println!(rt; "checksum {value}: {}", judged(&m[..44]))
+    println!(rt; "checksum {value}: {}", judged(m.split_at(44).0))
 }
 
 // The length field, and so many bytes: zeros behind the header.
@@ -82,7 +80,7 @@ fn one(rt: &impl Print, base: u64, first_bus: u8, last_bus: u8) -> io::Result<()
     });
     println!(rt;
         "entry {base:#x} {first_bus} {last_bus}: {}",
-        judged(&m[..60])
+        judged(m.split_at(60).0)
     )
 }
 
@@ -114,7 +112,7 @@ fn third(rt: &impl Print, segment: u16, base: u64, first: u8, last: u8) -> io::R
     ]);
     println!(rt;
         "third entry {base:#x} {segment} {first} {last}: {}",
-        judged(&m[..92])
+        judged(m.split_at(92).0)
     )
 }
 

@@ -22,13 +22,13 @@ fn start(rows: [BridgeRow; LIST_ROWS], count: usize) -> (u8, SoundTable) {
         mcfg_table::entry(0, 0xc000_0000, 32, 47),
         mcfg_table::entry(256, 0x1_4000_0000, 16, 31),
     ]);
-    fixtures::start_on(&m[..92], rows, count)
+    fixtures::start_on(m.split_at(92).0, rows, count)
 }
 
 // An MCFG table whose sum is so much too large, and so many rows of one bus each.
 fn rows(rt: &impl Print, sum: u8, count: usize) -> io::Result<()> {
     let m = mcfg_table::with_sum(sum);
-    let (number, t) = fixtures::start_on(&m, fixtures::rows_by_bus(), count);
+    let (number, t) = fixtures::start_on(m.split_at(60).0, fixtures::rows_by_bus(), count);
     println!(rt; "rows {sum} {count}: {number}, bridges {}", t.table.count)
 }
 
@@ -38,7 +38,11 @@ fn both(rt: &impl Print, sum: u8, owner: u8, edition: u8) -> io::Result<()> {
         edition,
         ..fixtures::row(owner, 16, 31, 0)
     };
-    let (number, t) = fixtures::start_on(&mcfg_table::with_sum(sum), [row; LIST_ROWS], 1);
+    let (number, t) = fixtures::start_on(
+        mcfg_table::with_sum(sum).split_at(60).0,
+        [row; LIST_ROWS],
+        1,
+    );
     println!(rt;
         "both {sum} {owner} {edition}: {number}, bridges {}",
         t.table.count

@@ -25,7 +25,7 @@ fn type_0(
         24,
     );
     print!(rt; "type 0 {cache_line_size} {latency_timer} {enable_serr} {enable_perr}")?;
-    println!(rt; ": {l}{}", Record(&l.bytes[..24]))
+    println!(rt; ": {l}{}", Record(l.bytes.split_at(24).0))
 }
 
 fn type_1(rt: &impl Print, read_count: u32, average: u32, total: u32) -> io::Result<()> {
@@ -42,7 +42,7 @@ fn type_1(rt: &impl Print, read_count: u32, average: u32, total: u32) -> io::Res
     );
     println!(rt;
         "type 1 {read_count} {average} {total}: {l}{}",
-        Record(&l.bytes[..20])
+        Record(l.bytes.split_at(20).0)
     )
 }
 
