@@ -16,7 +16,7 @@ fn apart_before(before: &[BridgeRow], row: BridgeRow) -> bool
     before.iter().all(|q| start::rows_apart(*q, row))
 }
 
-// The rows judged one after the other, up to the first that is refused: how many, each with its bridge written in its place in the array of a table.
+// The rows judged one after the other, up to the first that is refused: how many, each with its bridge written in its place in the array of a table. It is cleared where a row is refused.
 pub fn judge(
     mcfg: &[u8],
     rows: &[BridgeRow],
@@ -26,7 +26,13 @@ pub fn judge(
 {
     start::first_refusal(mcfg, rows.len())?;
     for (i, row) in rows.iter().enumerate() {
-        bridges[i] = start::admit(mcfg, *row, apart_before(&rows[..i], *row))?;
+        match start::admit(mcfg, *row, apart_before(&rows[..i], *row)) {
+            Ok(bridge) => bridges[i] = bridge,
+            Err(refusal) => {
+                *bridges = start::no_bridges();
+                return Err(refusal);
+            }
+        }
     }
     Ok(rows.len())
 }

@@ -35,7 +35,10 @@ pub fn slipwattle_start(mcfg: &[u8], rows: &[BridgeRow]) -> Started
     ensures { (result.number ≡ start_number (record { mcfg = mcfg.now; rows = rows.now }))
         × (result.table ≡ start_table (record { mcfg = mcfg.now; rows = rows.now })) }
 {
-    let mut table = start::no_bridges();
+    let mut table = Table {
+        bridges: start::no_bridges(),
+        count: 0,
+    };
     let judged = lent_rows::judge(mcfg, rows, &mut table.bridges);
     let number = start::settle(&mut table, judged);
     Started { table, number }

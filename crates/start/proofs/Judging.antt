@@ -1,6 +1,6 @@
 -- Start's walk over the lent rows: what holds before the first row, is kept by each row, and gives start's answer where the walk ends or a row is refused.
 -- Assumes nothing.
-use Rattle.std.proofs.Common.{◌≡◌, ℕ, ◌+◌, ◌≤◌, ◌<◌, Bool, true, false, cond, List, [], length, take, get_or, set, map, Ok, Err, refl, arith}
+use Rattle.std.proofs.Common.{◌≡◌, ℕ, ◌+◌, ◌≤◌, ◌<◌, Bool, true, false, cond, List, [], length, take, get_or, set, map, Ok, Err, refl, arith, sym, ap, ◌∙◌}
 use Rattle.std.specs.Prelude.{leb}
 use Rattle.std.specs.List.{list_all}
 use Rattle.std.proofs.Math.ListN.{length-map}
@@ -12,10 +12,12 @@ use Rattle.rules.specs.Start.{StartInput, rows_apart, rows_sound, bridge_of, tab
 use Rattle.rules.specs.declared.Bridge.{Bridge}
 use Rattle.rules.specs.declared.BridgeRow.{BridgeRow}
 use Rattle.rules.specs.declared.Entry.{Entry}
+use Rattle.rules.specs.declared.Table.{Table}
 use Rattle.rules.proofs.Starting.{no_row}
+use Rattle.codes.specs.Numbers.{number_of}
 use Rattle.codes.specs.declared.Refusal.{Refusal}
 use Rattle.codes.specs.declared.Refusal.TheVariants.{Mcfg, Rows}
-use Rattle.start.specs.Admission.{admitted, first_refusal, Judges}
+use Rattle.start.specs.Admission.{admitted, first_refusal, no_bridges, Judges}
 use Rattle.start.proofs.Listing.{every_is}
 use Rattle.start.proofs.Admission.{admissible, Listed, listed_none, listed_more, listed_stop, listed_all, too_many}
 
@@ -40,6 +42,10 @@ module _ (x : StartInput) where
   unfolding start_table start_number
   all_admitted m r = rw (m, r) (refl, refl)
 
+  -- a refusal of start's number, with an array that is as it was, or cleared
+  refusal : (r : Refusal) (before after : List Bridge) → Refused (number_of r) → (before ≡ no_bridges → after ≡ no_bridges) → Judges x (Err r) before after
+  refusal r before after is clear = (is.0, λ none. clear none ∙ ap (λ (t : Table). t.bridges) is.1, ap (λ (t : Table). t.count) is.1)
+
   module _ (before : List Bridge) where
     -- no row is refused so far: the first i are judged
     pub record Reached (i : ℕ) (l : List Bridge) : Type 0 where
@@ -54,8 +60,8 @@ module _ (x : StartInput) where
         go : (a b : Bool) → mcfg_sound x.mcfg ≡ a → leb (length x.rows) max_rows ≡ b → Err r ≡ cond a (cond b (Ok (tt {0})) (Err Rows)) (Err Mcfg) → Judges x (Err r) before before
         go true true p q e = cc
         go true false p q e =
-            let no = rows_refused p (too_many es x.rows (leb-false (length x.rows) max_rows q)) in let is : r ≡ Rows = cc in rw is (no.0, λ _. no.1)
-        go false b p q e = let no = table_refused p in let is : r ≡ Mcfg = cc in rw is (no.0, λ _. no.1)
+            let is : r ≡ Rows = cc in rw is (refusal Rows before before (rows_refused p (too_many es x.rows (leb-false (length x.rows) max_rows q))) (λ none. none))
+        go false b p q e = let is : r ≡ Mcfg = cc in rw is (refusal Mcfg before before (table_refused p) (λ none. none))
 
     -- before the first row
     pub reached_none : Ok (tt {0}) ≡ first_refusal x.mcfg (length x.rows) → Reached 0 before
@@ -89,17 +95,18 @@ module _ (x : StartInput) where
                 rw is (record { sound = reached.sound; few = reached.few; listed = listed_more es x.rows i before l no_row reached.listed left reached.few ok })
             go false broken e = cc
 
-        pub row_refused : (r : Refusal) → Err r ≡ admitted es row apart → Judges x (Err r) before l
+        pub row_refused : (r : Refusal) → Err r ≡ admitted es row apart → Judges x (Err r) before no_bridges
         row_refused r e = go (admissible es (take i x.rows) row) refl (rw as_every at e)
           where
-            go : (t : Bool) → admissible es (take i x.rows) row ≡ t → Err r ≡ cond t (Ok (bridge_of es row)) (Err Rows) → Judges x (Err r) before l
+            go : (t : Bool) → admissible es (take i x.rows) row ≡ t → Err r ≡ cond t (Ok (bridge_of es row)) (Err Rows) → Judges x (Err r) before no_bridges
             go true ok e = cc
             go false broken e =
-                let no = rows_refused reached.sound (listed_stop es x.rows i before l no_row reached.listed left broken) in let is : r ≡ Rows = cc in rw is (no.0, λ _. no.1)
+                let is : r ≡ Rows = cc in
+                rw is (refusal Rows before no_bridges (rows_refused reached.sound (listed_stop es x.rows i before l no_row reached.listed left broken)) (λ _. refl))
 
       -- the walk has ended
       pub answered : length x.rows ≤ i → Judges x (Ok (length x.rows)) before l
       answered past =
           let listed = listed_all es x.rows i before l reached.listed past reached.few in
           let all = all_admitted reached.sound listed.0 in
-          (all.0, λ none. rw (listed.1 none) (rw (length-map x.rows (bridge_of es)) at all.1))
+          (all.0, λ none. listed.1 none ∙ ap (λ (t : Table). t.bridges) all.1, sym (length-map x.rows (bridge_of es)) ∙ ap (λ (t : Table). t.count) all.1)

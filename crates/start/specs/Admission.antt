@@ -4,13 +4,11 @@ use Rattle.rules.specs.Limits.{max_rows, max_owner}
 use Rattle.rules.specs.Numbers.{within}
 use Rattle.rules.specs.Editions.{edition30, edition33}
 use Rattle.rules.specs.Mcfg.{mcfg_sound}
-use Rattle.rules.specs.Tables.{table_with}
 use Rattle.rules.specs.Start.{StartInput, express, conventional, permissible, row_sound, bridge_of, table_of, start_number, start_table}
 use Rattle.rules.specs.declared.Bridge.{Bridge}
 use Rattle.rules.specs.declared.BridgeRow.{BridgeRow}
 use Rattle.rules.specs.declared.Entry.{Entry}
-use Rattle.rules.specs.declared.Table.{Table}
-use Rattle.codes.specs.Numbers.{number}
+use Rattle.codes.specs.Numbers.{number, given}
 use Rattle.codes.specs.declared.Refusal.{Refusal}
 use Rattle.codes.specs.declared.Refusal.TheVariants.{Mcfg, Rows}
 
@@ -29,11 +27,11 @@ admitted es r apart = cond (row_sound es r && apart) (Ok (bridge_of es r)) (Err 
 abbrev pub first_refusal : List ℕ → ℕ → Result Unit Refusal
 first_refusal mcfg count = cond (mcfg_sound mcfg) (cond (leb count max_rows) (Ok tt) (Err Rows)) (Err Mcfg)
 
--- document 01, "The MCFG table and the starting list": of an array in which rows were judged, the table: so many bridges, or none where a row was refused
-abbrev pub settled : List Bridge → Result ℕ Refusal → Table
-settled bridges (Ok count) = table_with bridges count
-settled bridges (Err r) = table_of []
+-- the array of a table with no bridges
+abbrev pub no_bridges : List Bridge
+no_bridges = (table_of []).bridges
 
--- rows judged, as start judges them: its number, and the table of the array that had no bridges
+-- rows judged, as start judges them, in an array with no bridges: its number, and its table's bridges and count
 abbrev pub Judges : StartInput → (judged : Result ℕ Refusal) → (before after : List Bridge) → Type 0
-Judges x judged before after = (number judged ≡ start_number x) × (before ≡ (table_of []).bridges → settled after judged ≡ start_table x)
+Judges x judged before after =
+    (number judged ≡ start_number x) × (before ≡ no_bridges → after ≡ (start_table x).bridges) × (given 0 judged ≡ (start_table x).count)

@@ -1,12 +1,13 @@
 // The table of a lent MCFG table and the rows of a starting list.
 #![tactic(auto)]
 
-ghost use Rattle.std.specs.Prelude.{◌≡◌, true, cond, []};
+ghost use Rattle.std.specs.Prelude.{◌≡◌, true, cond};
 ghost use Rattle.rules.specs.Mcfg.{entries};
+ghost use Rattle.rules.specs.Tables.{table_with};
 ghost use Rattle.rules.specs.Editions.{known_control};
-ghost use Rattle.rules.specs.Start.{permissible, rows_apart, table_of};
-ghost use Rattle.codes.specs.Numbers.{number, kind_number, edition_number};
-ghost use Rattle.start.specs.Admission.{row_sound_if, admitted, first_refusal, settled};
+ghost use Rattle.rules.specs.Start.{permissible, rows_apart};
+ghost use Rattle.codes.specs.Numbers.{number, given, kind_number, edition_number};
+ghost use Rattle.start.specs.Admission.{row_sound_if, admitted, first_refusal, no_bridges};
 
 use codes::{Edition, Kind, Refusal};
 use rules::constants::{KNOWN_CONTROL_3_0, KNOWN_CONTROL_3_3, MAX_OWNER};
@@ -99,24 +100,18 @@ pub fn first_refusal(mcfg: &[u8], count: usize) -> Result<(), Refusal>
     Ok(())
 }
 
-// The table with no bridges.
+// The array of a table with no bridges.
 #[tactic(auto, unfolding(rules::specs::Limits::max_rows))]
-pub fn no_bridges() -> Table
-    ensures { result ≡ table_of [] }
+pub fn no_bridges() -> [Bridge; rules::MAX_ROWS]
+    ensures { result ≡ no_bridges }
 {
-    Table {
-        bridges: [Bridge::default(); rules::MAX_ROWS],
-        count: 0,
-    }
+    [Bridge::default(); rules::MAX_ROWS]
 }
 
-// Start's number; the table, in whose array the rows were judged, becomes start's: it counts them, or has no bridges where one was refused.
+// Start's number of rows judged in the array of a table, which gets their count: how many bridges there are, or none where start is refused.
 pub fn settle(table: &mut Table, judged: Result<usize, Refusal>) -> u8
-    ensures { (result ≡ number judged) × (table.new ≡ settled table.old.bridges judged) }
+    ensures { (result ≡ number judged) × (table.new ≡ table_with table.old.bridges (given 0 judged)) }
 {
-    match judged {
-        Ok(count) => table.count = count,
-        Err(_) => *table = no_bridges(),
-    }
+    table.count = judged.unwrap_or(0);
     codes::number(judged)
 }

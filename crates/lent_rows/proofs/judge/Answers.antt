@@ -9,10 +9,8 @@ pub returns-in_err-first_refusal : goal.returns-in_err-first_refusal
 returns-in_err-first_refusal c =
     let p = err_from_is_err_and c.from_residual.result c.from_residual.ensures.1 in rw (p.1, p.2) (first_refused _ _ _ c.in_err-first_refusal.ensures)
 
-pub returns-in_err-bridges : goal.returns-in_err-bridges
-returns-in_err-bridges c =
-    let p = err_from_is_err_and c.from_residual-in_err-bridges.result c.from_residual-in_err-bridges.ensures.1 in
-    rw (p.1, p.2) (row_refused _ _ _ _ c.loop-i.invariant c.loop-i-test.true _ (rw c.apart_before.ensures at c.in_err-bridges.ensures))
+pub returns : goal.returns
+returns c = answered _ _ _ _ c.loop-i.invariant c.loop-i-test.false
 
 pub bounds-bridges-i : goal.bounds-bridges-i
 unfolding max_rows
@@ -23,7 +21,7 @@ unfolding max_rows
 offset_bounds-bridges-i c = let l : c.loop-i.i < 64 = in_table _ _ _ _ c.loop-i.invariant c.loop-i-test.true in omega arith
 
 pub loop-i-preserved : goal.loop-i-preserved
-loop-i-preserved c = reached_next _ _ _ _ c.loop-i.invariant c.loop-i-test.true _ (rw c.apart_before.ensures at c.in_ok-bridges.ensures)
+loop-i-preserved c = reached_next _ _ _ _ c.loop-i.invariant c.loop-i-test.true _ (rw c.apart_before.ensures at c.in-Ok.ensures)
 
-pub returns : goal.returns
-returns c = answered _ _ _ _ c.loop-i.invariant c.loop-i-test.false
+pub returns-in-Err : goal.returns-in-Err
+returns-in-Err c = rw c.no_bridges.ensures (row_refused _ _ _ _ c.loop-i.invariant c.loop-i-test.true _ (rw c.apart_before.ensures at c.in-Err.ensures))
