@@ -1,26 +1,12 @@
 -- An error's answer, written from the front on: the buffer is right up to `at`.
-use Prim.Native.Nat.{ℕ, zero, suc, ◌+◌, ◌-◌, ◌≤◌}
+use Prim.Native.Nat.{ℕ, suc, ◌+◌, ◌-◌, ◌≤◌}
 use mathlib.Core.Path.{◌≡◌, sym, ap, ◌∙◌}
 use mathlib.Core.List.{List, ◌++◌}
 use native.Mathlib.Omega.{arith}
 use lib.ListN.{length, take, drop, replicate, length-append, length-replicate}
 use lib.Seq.{take_all, take_at, take-add, length-take-le}
+use Rattle.std.proofs.lemmas.List.{drop-replicate, take-replicate}
 use Rattle.rules.specs.Numbers.{le32}
-
--- zeros without the first k of them
-drop_zeros : (k n : ℕ) → drop {A = ℕ} k (replicate n 0) ≡ replicate (n - k) 0
-drop_zeros zero n = ap (λ (m : ℕ). replicate {A = ℕ} m 0) (less n)
-  where
-    less : (n : ℕ) → n ≡ n - 0
-    less n = omega arith
-drop_zeros (suc k) zero = ap (λ (m : ℕ). replicate {A = ℕ} m 0) (none k)
-  where
-    none : (k : ℕ) → 0 ≡ 0 - suc k
-    none k = omega arith
-drop_zeros (suc k) (suc n) = drop_zeros k n ∙ ap (λ (m : ℕ). replicate {A = ℕ} m 0) (both n k)
-  where
-    both : (n k : ℕ) → n - k ≡ suc n - suc k
-    both n k = omega arith
 
 -- a status, and zeros to length n
 abbrev pub error_bytes : ℕ → ℕ → List ℕ
@@ -32,16 +18,10 @@ all_right a x n at f h l i = sym (take_all at a (omega arith)) ∙ i ∙ take_al
 
 -- zeros from `at` on
 zeros_left : (x n at : ℕ) → 4 ≤ at → drop at (error_bytes x n) ≡ replicate (n - 4 - (at - 4)) 0
-zeros_left x n at f = ap (λ (k : ℕ). drop k (error_bytes x n)) (past_status at f) ∙ drop_zeros (at - 4) (n - 4)
+zeros_left x n at f = ap (λ (k : ℕ). drop k (error_bytes x n)) (past_status at f) ∙ drop-replicate (at - 4) (n - 4) 0
   where
     past_status : (at : ℕ) → 4 ≤ at → at ≡ suc (suc (suc (suc (at - 4))))
     past_status at f = omega arith
-
-zero_dword : (m : ℕ) → 4 ≤ m → take 4 (replicate m 0) ≡ le32 0
-zero_dword m f = ap (λ (k : ℕ). take {A = ℕ} 4 (replicate k 0)) (four_more m f)
-  where
-    four_more : (m : ℕ) → 4 ≤ m → m ≡ suc (suc (suc (suc (m - 4))))
-    four_more m f = omega arith
 
 -- a DWORD of 0 more
 pub more_right : (a : List ℕ) (x n at : ℕ) (a₁ : List ℕ) → 4 ≤ at → at + 4 ≤ n → length a ≡ n → a₁ ≡ take at a ++ le32 0 ++ drop (4 + at) a
@@ -58,4 +38,4 @@ more_right a x n at a₁ f h l e i =
     back : take (at + 4) (error_bytes x n) ≡ take at (error_bytes x n) ++ le32 0
     back =
         take-add at 4 (error_bytes x n)
-        ∙ ap (λ (y : List ℕ). take at (error_bytes x n) ++ y) (ap (take 4) (zeros_left x n at f) ∙ zero_dword (n - 4 - (at - 4)) (omega arith))
+        ∙ ap (λ (y : List ℕ). take at (error_bytes x n) ++ y) (ap (take 4) (zeros_left x n at f) ∙ take-replicate 4 (n - 4 - (at - 4)) 0 (omega arith))

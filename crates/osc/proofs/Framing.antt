@@ -1,4 +1,4 @@
--- What a framed call has, and its answer, recognised or not.
+-- What a framed call has.
 use Prim.Native.Nat.{ℕ, ◌*◌, ◌%◌, ◌≤◌}
 use mathlib.Core.Path.{◌≡◌}
 use mathlib.Core.Bool.{true, false, not, ◌&&◌}

@@ -87,6 +87,7 @@ controls_of n = go (eqb n 1)
     go true = refl
     go false = refl
 
+-- so the granted set of a bridge is that of its edition
 pub granted_as : (b : Bridge) (e : Edition) (w r : ℕ) → e ≡ edition_of b.edition → granted_by (controls e) b.permitted b.held (declared b w) r ≡ granted b w r
 unfolding granted
 granted_as b e w r i = ap (λ (l : List Needs). granted_by l b.permitted b.held (declared b w) r) (ap controls i ∙ controls_of b.edition)
