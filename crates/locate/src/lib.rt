@@ -9,7 +9,15 @@ ghost use Rattle.codes.specs.Numbers.{number, given};
 ghost use Rattle.locate.specs.Back.{read_back};
 
 use codes::Refusal;
-use rules::{Bridge, BridgeNumber, Place, SessionNumber};
+use rules::{Bridge, BridgeNumber, Located, Place, SessionNumber};
+
+// A search bridge by bridge: the one to look at next, and what was found so far.
+// Stays: the theorem `Seeking` in crates/locate/proofs speaks of it.
+#[derive(Clone, Copy)]
+pub struct Search {
+    pub next: usize,
+    pub found: Located,
+}
 
 // Where the first bridge of the session stands whose window has the address; windows of one table share no byte.
 fn find(bridges: &[Bridge], s: SessionNumber, address: u64) -> Option<usize>
