@@ -16,7 +16,9 @@ use Rattle.rules.specs.declared.Image.{Image}
 use Rattle.rules.proofs.Tests.{fails}
 use Rattle.rules.proofs.Rom.{SoundImage, sound_image, unit}
 use Rattle.rom.specs.Images.{image_read}
-use Rattle.rom.specs.declared.ImageRead.TheVariants.{Sound, Broken}
+use Rattle.std.specs.Prelude.{Ok, Err}
+use Rattle.codes.specs.declared.Refusal.{Refusal}
+use Rattle.codes.specs.declared.Refusal.TheVariants.{Rom}
 
 -- n bytes from byte i on, as the code cuts them
 pub from_to : (l s : List ℕ) (i n : ℕ) (q : Bool) → q ≡ same_bytes (take (n + i - i) (drop i l)) s → same_bytes (take n (drop i l)) s ≡ q
@@ -39,33 +41,33 @@ as_number l i h bytes =
     go false e q f = sym (ne_eqb (word l i) 0xAA55 (λ z. true≢false (sym (eq-eqb (byte l i) 0x55 (omega (arith, bytes i, bytes (1 + i)))) ∙ e)))
 
 module _ (l : List ℕ) (i : ℕ) where
-  broken : (SoundImage l (image_at l i) → ⊥) → Broken ≡ image_read l i
+  broken : (SoundImage l (image_at l i) → ⊥) → Err Rom ≡ image_read l i
   broken n = rw (fails (image_sound l (image_at l i)) (λ e. n (sound_image l (image_at l i) e)))
 
   -- one thing fails
 
-  pub other_signature : same_bytes (take 2 (drop i l)) image_signature ≡ false → Broken ≡ image_read l i
+  pub other_signature : same_bytes (take 2 (drop i l)) image_signature ≡ false → Err Rom ≡ image_read l i
   other_signature h = broken (λ s. true≢false (sym s.signature ∙ h))
 
   module _ (structure : ℕ) (at : structure ≡ structure_at l i) where
-    pub structure_cut : length l < 24 + structure → Broken ≡ image_read l i
+    pub structure_cut : length l < 24 + structure → Err Rom ≡ image_read l i
     structure_cut h = broken (λ s. absurd (omega (arith, s.structure_ends, at)))
 
-    pub other_letters : same_bytes (take 4 (drop structure l)) structure_signature ≡ false → Broken ≡ image_read l i
+    pub other_letters : same_bytes (take 4 (drop structure l)) structure_signature ≡ false → Err Rom ≡ image_read l i
     other_letters h = broken (λ s. true≢false (sym s.letters ∙ sym (ap (λ (n : ℕ). same_bytes (take 4 (drop n l)) structure_signature) at) ∙ h))
 
     module _ (size : ℕ) (long : size ≡ (image_at l i).size) where
-      pub no_length : size ≡ 0 → Broken ≡ image_read l i
+      pub no_length : size ≡ 0 → Err Rom ≡ image_read l i
       no_length h = broken (λ s. s.not_empty (sym long ∙ h))
 
-      pub image_cut : length l < size + i → Broken ≡ image_read l i
+      pub image_cut : length l < size + i → Err Rom ≡ image_read l i
       image_cut h = broken (λ s. absurd (omega (arith, s.ends, long)))
 
       -- all holds
       pub whole : same_bytes (take 2 (drop i l)) image_signature ≡ true → same_bytes (take 4 (drop structure l)) structure_signature ≡ true
-          → size + i ≤ length l → 24 + structure ≤ length l → (size ≡ 0 → ⊥) → Sound (record { start = i; structure = structure; size = size }) ≡ image_read l i
+          → size + i ≤ length l → 24 + structure ≤ length l → (size ≡ 0 → ⊥) → Ok (record { start = i; structure = structure; size = size }) ≡ image_read l i
       whole signature letters ends structure_ends not_empty =
-          ap Sound image ∙ rw (sym (ap (image_sound l) image) ∙ sound)
+          ap Ok image ∙ rw (sym (ap (image_sound l) image) ∙ sound)
         where
           image : record { start = i; structure = structure; size = size } ≡ image_at l i
           image = rw (at, long)
@@ -76,24 +78,24 @@ module _ (l : List ℕ) (i : ℕ) where
 -- ---- what was read
 
 -- an image that was read is the one at its byte, and sound
-pub is_read : (l : List ℕ) (i : ℕ) (m : Image) → Sound m ≡ image_read l i → (m ≡ image_at l i) × (image_sound l (image_at l i) ≡ true)
+pub is_read : (l : List ℕ) (i : ℕ) (m : Image) → Ok m ≡ image_read l i → (m ≡ image_at l i) × (image_sound l (image_at l i) ≡ true)
 is_read l i m e = go (image_sound l (image_at l i)) e
   where
-    go : (t : Bool) → Sound m ≡ cond t (Sound (image_at l i)) Broken → (m ≡ image_at l i) × (t ≡ true)
+    go : (t : Bool) → Ok m ≡ cond t (Ok (image_at l i)) (Err Rom) → (m ≡ image_at l i) × (t ≡ true)
     go true q = (cc, refl)
     go false q = let z : ◌≡◌ {A = ℕ} 0 1 = cc in absurd (omega arith)
 
 -- it starts there, and it and its structure lie inside the ROM
-pub image_fits : (l : List ℕ) (i : ℕ) (m : Image) → Sound m ≡ image_read l i
+pub image_fits : (l : List ℕ) (i : ℕ) (m : Image) → Ok m ≡ image_read l i
     → (m.size + i ≤ length l) × (24 + m.structure ≤ length l) × (512 ≤ m.size) × (m.start ≡ i)
 image_fits l i m e =
     let r = is_read l i m e in
     let s = sound_image l (image_at l i) r.1 in
     subst (λ (x : Image). (x.size + i ≤ length l) × (24 + x.structure ≤ length l) × (512 ≤ x.size) × (x.start ≡ i)) (sym r.0) (s.ends, s.structure_ends, unit l i s, refl)
 
-pub is_broken : (l : List ℕ) (i : ℕ) → Broken ≡ image_read l i → image_sound l (image_at l i) ≡ false
-is_broken l i e = go (image_sound l (image_at l i)) e
+pub is_broken : (l : List ℕ) (i : ℕ) (r : Refusal) → Err r ≡ image_read l i → (image_sound l (image_at l i) ≡ false) × (r ≡ Rom)
+is_broken l i r e = go (image_sound l (image_at l i)) e
   where
-    go : (t : Bool) → Broken ≡ cond t (Sound (image_at l i)) Broken → t ≡ false
-    go true q = cc
-    go false q = refl
+    go : (t : Bool) → Err r ≡ cond t (Ok (image_at l i)) (Err Rom) → (t ≡ false) × (r ≡ Rom)
+    go true q = let z : ◌≡◌ {A = ℕ} 0 1 = cc in absurd (omega arith)
+    go false q = (refl, cc)

@@ -19,7 +19,8 @@ use Rattle.rules.specs.declared.Image.{Image}
 use Rattle.rules.proofs.Tests.{fails}
 use Rattle.rules.proofs.Rom.{SoundImage, sound_image, unit, enough, any_bound, image_part_lem}
 use Rattle.rom.specs.Images.{image_read, chain_sound, chosen_if}
-use Rattle.rom.specs.declared.ImageRead.TheVariants.{Sound, Broken}
+use Rattle.std.specs.Prelude.{Ok, Err}
+use Rattle.codes.specs.declared.Refusal.{Refusal}
 use Rattle.rom.proofs.Reading.{is_read, is_broken}
 
 -- ---- what a list of images gives: no last image, and an image that is not sound, give the same
@@ -52,8 +53,8 @@ module _ (l : List ℕ) {A : Type 0} (g : Giving l A) (all : A) where
     refuses : image_sound l (image_at l i) ≡ false → g.bad ≡ all
     refuses e = sym (breaks w.fuel i e) ∙ w.gives
 
-    pub ended : Broken ≡ image_read l i → g.bad ≡ all
-    ended e = refuses (is_broken l i e)
+    pub ended : (r : Refusal) → Err r ≡ image_read l i → g.bad ≡ all
+    ended r e = refuses (is_broken l i r e).0
 
     -- at the end there is no room for an image
     pub at_end : length l < 26 + i → g.bad ≡ all
@@ -63,7 +64,7 @@ module _ (l : List ℕ) {A : Type 0} (g : Giving l A) (all : A) where
         absurd (omega (arith, s.ends, unit l i s))))
 
     -- an image that was read, and those after it
-    module _ (m : Image) (e : Sound m ≡ image_read l i) where
+    module _ (m : Image) (e : Ok m ≡ image_read l i) where
       is : m ≡ image_at l i
       is = (is_read l i m e).0
 
@@ -197,7 +198,7 @@ module _ (l : List ℕ) (vendor device code_type : ℕ) where
     pub last_match : asked m ≡ true → image_part m ≡ answers (some (m ∷ []))
     last_match a = rw (sound, a)
 
-  module _ (i : ℕ) (w : Left l answer (find_image l vendor device code_type) i) (m : Image) (e : Sound m ≡ image_read l i) (a : asked m ≡ true) where
+  module _ (i : ℕ) (w : Left l answer (find_image l vendor device code_type) i) (m : Image) (e : Ok m ≡ image_read l i) (a : asked m ≡ true) where
     pub is_chosen : chosen_if (is_last l m || chain_sound l (m.size + i)) m ≡ find_image l vendor device code_type
     unfolding chain_sound
     is_chosen = go (is_last l m) refl

@@ -1,15 +1,15 @@
 -- Document 02, a: what the parts of the walk answer.
-use Rattle.std.specs.Prelude.{ℕ, ◌/◌, Bool, cond, List, length}
+use Rattle.std.specs.Prelude.{ℕ, ◌/◌, Bool, cond, List, length, Result, Ok, Err}
+use Rattle.codes.specs.declared.Refusal.{Refusal}
+use Rattle.codes.specs.declared.Refusal.TheVariants.{Rom}
 use Rattle.rules.specs.Parts.{refused}
 use Rattle.rules.specs.Rom.{image_at, images_from, image_sound, sound_images, image_part}
 use Rattle.rules.specs.declared.FoundAt.{FoundAt}
 use Rattle.rules.specs.declared.Image.{Image}
-use Rattle.rom.specs.declared.ImageRead.{ImageRead}
-use Rattle.rom.specs.declared.ImageRead.TheVariants.{Sound, Broken}
 
--- the image at byte i, where it is sound
-abbrev pub image_read : List ℕ → ℕ → ImageRead
-image_read l i = cond (image_sound l (image_at l i)) (Sound (image_at l i)) Broken
+-- the image at byte i, where it is sound; else 12
+abbrev pub image_read : List ℕ → ℕ → Result Image Refusal
+image_read l i = cond (image_sound l (image_at l i)) (Ok (image_at l i)) (Err Rom)
 
 -- the chain from byte i on is sound
 unfoldable pub chain_sound : List ℕ → ℕ → Bool
