@@ -17,6 +17,7 @@ fn apart_before(before: &[BridgeRow], row: BridgeRow) -> bool
 }
 
 // The rows judged one after the other, up to the first that is refused: how many, each with its bridge written in its place in the array of a table. It is cleared where a row is refused.
+#[tactic(auto, unfolding(rules::specs::Limits::max_rows))]
 pub fn judge(
     mcfg: &[u8],
     rows: &[BridgeRow],

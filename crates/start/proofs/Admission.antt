@@ -1,6 +1,6 @@
 -- Start row by row: the first i rows of a list are sound, apart and stored; one more row; the whole list.
 -- Assumes nothing.
-use Rattle.std.proofs.Common.{◌≡◌, ℕ, ◌+◌, ◌≤◌, ◌<◌, Bool, true, false, ◌&&◌, List, [], ◌∷◌, ◌++◌, map, length, take, get_or, set, refl, sym, ◌∙◌, add-one, arith}
+use Rattle.std.proofs.Common.{◌≡◌, ℕ, ◌+◌, ◌≤◌, ◌<◌, Bool, true, false, ◌&&◌, List, [], ◌∷◌, ◌++◌, map, length, take, get_or, set, sym, ◌∙◌, add-one, arith}
 use Rattle.std.proofs.lemmas.List.{take_all, length-take-le, map-append}
 use Rattle.std.proofs.Math.Seq.{take-suc}
 use Rattle.std.proofs.Math.ListN.{length-map}
@@ -46,9 +46,6 @@ module _ (es : List Entry) where
   pub record Listed (rows : List BridgeRow) (i : ℕ) (before l : List Bridge) : Type 0 where
     pub stored : before ≡ array_of [] → l ≡ array_of (take i rows)
     pub good : rows_good (take i rows) ≡ true
-
-  pub listed_none : (rows : List BridgeRow) (before : List Bridge) → Listed rows 0 before before
-  listed_none rows before = record { stored = λ none. none; good = refl }
 
   module _ (rows : List BridgeRow) (i : ℕ) (before l : List Bridge) (d : BridgeRow) (listed : Listed rows i before l) (left : i < length rows) where
     abbrev here : BridgeRow

@@ -1,10 +1,10 @@
 -- Start's walk over the lent rows: what holds before the first row, is kept by each row, and gives start's answer where the walk ends or a row is refused.
 -- Assumes nothing.
-use Rattle.std.proofs.Common.{◌≡◌, ℕ, ◌+◌, ◌≤◌, ◌<◌, Bool, true, false, cond, List, [], length, take, get_or, set, map, Ok, Err, refl, arith, sym, ap, ◌∙◌}
+use Rattle.std.proofs.Common.{◌≡◌, ℕ, ◌+◌, ◌≤◌, ◌<◌, Bool, true, false, cond, List, [], length, take, get_or, set, map, Ok, Err, refl, sym, ap, ◌∙◌}
 use Rattle.std.specs.Prelude.{leb}
 use Rattle.std.specs.List.{list_all}
 use Rattle.std.proofs.Math.ListN.{length-map}
-use borrow.Author.Tests.{leb-true, leb-false}
+use borrow.Author.Tests.{leb-false}
 use Rattle.rules.specs.Limits.{max_rows}
 use Rattle.rules.specs.Lists.{every}
 use Rattle.rules.specs.Mcfg.{entries, mcfg_sound}
@@ -19,7 +19,7 @@ use Rattle.codes.specs.declared.Refusal.{Refusal}
 use Rattle.codes.specs.declared.Refusal.TheVariants.{Mcfg, Rows}
 use Rattle.start.specs.Admission.{admitted, first_refusal, no_bridges, Judges}
 use Rattle.start.proofs.Listing.{every_is}
-use Rattle.start.proofs.Admission.{admissible, Listed, listed_none, listed_more, listed_stop, listed_all, too_many}
+use Rattle.start.proofs.Admission.{admissible, Listed, listed_more, listed_stop, listed_all, too_many}
 
 module _ (x : StartInput) where
   abbrev es : List Entry
@@ -63,15 +63,6 @@ module _ (x : StartInput) where
             let is : r ≡ Rows = cc in rw is (refusal Rows before before (rows_refused p (too_many es x.rows (leb-false (length x.rows) max_rows q))) (λ none. none))
         go false b p q e = let is : r ≡ Mcfg = cc in rw is (refusal Mcfg before before (table_refused p) (λ none. none))
 
-    -- before the first row
-    pub reached_none : Ok (tt {0}) ≡ first_refusal x.mcfg (length x.rows) → Reached 0 before
-    reached_none e = go (mcfg_sound x.mcfg) (leb (length x.rows) max_rows) refl refl e
-      where
-        go : (a b : Bool) → mcfg_sound x.mcfg ≡ a → leb (length x.rows) max_rows ≡ b → Ok (tt {0}) ≡ cond a (cond b (Ok (tt {0})) (Err Rows)) (Err Mcfg) → Reached 0 before
-        go true true p q e = record { sound = p; few = leb-true (length x.rows) max_rows q; listed = listed_none es x.rows before }
-        go true false p q e = cc
-        go false b p q e = cc
-
     module _ (i : ℕ) (l : List Bridge) (reached : Reached i l) where
       -- the next row is judged
       module _ (left : i < length x.rows) where
@@ -83,9 +74,6 @@ module _ (x : StartInput) where
 
         as_every : apart ≡ every (λ (q : BridgeRow). rows_apart q row) (take i x.rows)
         as_every = every_is (λ (q : BridgeRow). rows_apart q row) (take i x.rows)
-
-        pub in_table : i < max_rows
-        in_table = omega (arith, reached.few)
 
         pub reached_next : (b : Bridge) → Ok b ≡ admitted es row apart → Reached (i + 1) (set l i b)
         reached_next b e = go (admissible es (take i x.rows) row) refl (rw as_every at e)

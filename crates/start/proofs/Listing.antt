@@ -1,7 +1,6 @@
 -- Tests over a list with one more element at its end, and over its front; lists padded.
 -- Assumes nothing.
-use Rattle.std.proofs.Common.{◌≡◌, ℕ, zero, suc, ◌<◌, Bool, true, ◌&&◌, List, [], ◌∷◌, ◌++◌, length, take, drop, set, refl, sym, ap, ◌∙◌, arith}
-use Rattle.std.proofs.lemmas.List.{take-append-drop}
+use Rattle.std.proofs.Common.{◌≡◌, ℕ, zero, suc, ◌<◌, Bool, true, ◌&&◌, List, [], ◌∷◌, ◌++◌, length, take, set, refl, sym, ap, ◌∙◌, arith}
 use Rattle.std.specs.List.{list_all}
 use mathlib.Core.Bool.{and-true, and_assoc}
 use Rattle.rules.specs.Lists.{every, pairwise, padded}
@@ -32,18 +31,12 @@ module _ {A : Type 0} where
 
   -- the front of a list that passes
 
-  every_front : (p : A → Bool) (l k : List A) → every p (l ++ k) ≡ true → every p l ≡ true
-  every_front p [] k e = refl
-  every_front p (y ∷ l) k e = and_is (and_l (p y) (every p (l ++ k)) e) (every_front p l k (and_r (p y) (every p (l ++ k)) e))
-
-  pairwise_front : (p : A → A → Bool) (l k : List A) → pairwise p (l ++ k) ≡ true → pairwise p l ≡ true
-  pairwise_front p [] k e = refl
-  pairwise_front p (y ∷ l) k e = and_is
-      (every_front (p y) l k (and_l (every (p y) (l ++ k)) (pairwise p (l ++ k)) e))
-      (pairwise_front p l k (and_r (every (p y) (l ++ k)) (pairwise p (l ++ k)) e))
-
   pub every_take : (p : A → Bool) (l : List A) (i : ℕ) → every p l ≡ true → every p (take i l) ≡ true
-  every_take p l i e = every_front p (take i l) (drop i l) (ap (every p) (take-append-drop i l) ∙ e)
+  every_take p l zero e = refl
+  every_take p [] (suc i) e = refl
+  every_take p (x ∷ l) (suc i) e = and_is (and_l (p x) (every p l) e) (every_take p l i (and_r (p x) (every p l) e))
 
   pub pairwise_take : (p : A → A → Bool) (l : List A) (i : ℕ) → pairwise p l ≡ true → pairwise p (take i l) ≡ true
-  pairwise_take p l i e = pairwise_front p (take i l) (drop i l) (ap (pairwise p) (take-append-drop i l) ∙ e)
+  pairwise_take p l zero e = refl
+  pairwise_take p [] (suc i) e = refl
+  pairwise_take p (x ∷ l) (suc i) e = and_is (every_take (p x) l i (and_l (every (p x) l) (pairwise p l) e)) (pairwise_take p l i (and_r (every (p x) l) (pairwise p l) e))

@@ -1,8 +1,6 @@
 -- What is refused before a row is judged; a row is judged as start judges it.
-use Rattle.std.proofs.Common.{◌<◌, arith}
 use Rattle.std.proofs.lemmas.Result.{err_from_is_err_and}
-use Rattle.rules.specs.Limits.{max_rows}
-use Rattle.start.proofs.Judging.{first_refused, in_table, reached_next, row_refused, answered}
+use Rattle.start.proofs.Judging.{first_refused, reached_next, row_refused, answered}
 use Rattle.lent_rows.proofs.judge.Goals as goal
 
 pub returns-in_err-first_refusal : goal.returns-in_err-first_refusal
@@ -11,14 +9,6 @@ returns-in_err-first_refusal c =
 
 pub returns : goal.returns
 returns c = answered _ _ _ _ c.loop-i.invariant c.loop-i-test.false
-
-pub bounds-bridges-i : goal.bounds-bridges-i
-unfolding max_rows
-bounds-bridges-i c = in_table _ _ _ _ c.loop-i.invariant c.loop-i-test.true
-
-pub offset_bounds-bridges-i : goal.offset_bounds-bridges-i
-unfolding max_rows
-offset_bounds-bridges-i c = let l : c.loop-i.i < 64 = in_table _ _ _ _ c.loop-i.invariant c.loop-i-test.true in omega arith
 
 pub loop-i-preserved : goal.loop-i-preserved
 loop-i-preserved c = reached_next _ _ _ _ c.loop-i.invariant c.loop-i-test.true _ (rw c.apart_before.ensures at c.in-Ok.ensures)
