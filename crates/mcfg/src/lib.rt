@@ -45,10 +45,7 @@ fn header_sound(m: &[u8]) -> bool
 fn records(m: &[u8]) -> &[[u8; 16]]
     ensures { map entry_in result.now ≡ entries m.now }
 {
-    if m.len() < 44 {
-        return &[];
-    }
-    m[44..].as_chunks().0
+    m[m.len().min(44)..].as_chunks().0
 }
 
 // The entry of a record.
@@ -137,7 +134,12 @@ fn entries_sound(records: &[[u8; 16]]) -> bool
 fn apart_from_all(e: Entry, others: &[[u8; 16]]) -> bool
     ensures { result ≡ every (seen_apart e) (map entry_in others.now) }
 {
-    others.iter().all(|other| apart(e, entry_in(other)))
+    for other in others {
+        if !apart(e, entry_in(other)) {
+            return false;
+        }
+    }
+    true
 }
 
 // Each entry is apart from each later one.

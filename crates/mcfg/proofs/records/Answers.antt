@@ -1,11 +1,13 @@
-use Rattle.std.proofs.Common.{[], drop, sym, ap, ◌∙◌, arith, drop_of_length-le, take_all, length-drop}
+use Rattle.std.proofs.Common.{◌≡◌, ℕ, ◌-◌, ◌∙◌, min, length, take, drop, map, ap, arith, length-drop, take_all}
+use Rattle.std.proofs.lemmas.List.{drop_min}
 use Rattle.mcfg.specs.Rest.{entry_in}
-use Rattle.std.proofs.Common.{map}
 use Rattle.mcfg.proofs.Entries.{all_records}
 use Rattle.mcfg.proofs.records.Goals as goal
 
-pub returns-then-m-lt44 : goal.returns-then-m-lt44
-returns-then-m-lt44 c = all_records c.args.m.now [] (sym (drop_of_length-le c.args.m.now {i = 44} (omega arith)))
-
 pub returns : goal.returns
-returns c = ap (map entry_in) c.as_chunks.ensures.front ∙ all_records c.args.m.now _ (take_all _ (drop 44 c.args.m.now) (omega (arith, length-drop 44 c.args.m.now)))
+returns c =
+    let m = c.args.m.now in let n = c.min.result in
+    let start : n ≡ min 44 (length m) = omega arith in
+    let rest : take (length m - n) (drop n m) ≡ drop n m = take_all (length m - n) (drop n m) (omega (arith, length-drop n m)) in
+    let behind : drop n m ≡ drop 44 m = ap (λ (k : ℕ). drop k m) start ∙ drop_min 44 m in
+    ap (map entry_in) c.as_chunks.ensures.front ∙ all_records m _ (rest ∙ behind)
