@@ -1,4 +1,4 @@
 pub mod Decides
-pub mod OneByOne
 pub mod Searches
 pub mod Sizes
+pub mod Values

@@ -1,4 +1,4 @@
--- What the record search gives lies inside the deciding block; a type 2 record has its eight pairs there.
+-- What the record search gives lies inside the deciding block; a type 2 record has its eight pairs, which give the register values.
 -- Assumes nothing.
 use Prim.Native.Nat.{ℕ, zero, suc, ◌+◌, ◌%◌, ◌≤◌}
 use mathlib.Core.Path.{◌≡◌, refl, sym, ap, subst, ◌∙◌}
@@ -12,7 +12,7 @@ use borrow.Author.Tests.{eqb-true, le-ltb, not-false}
 use Rattle.rules.specs.Limits.{max_block}
 use Rattle.rules.specs.Lists.{every, first, is_none}
 use Rattle.rules.specs.Refusals.{first_of}
-use Rattle.rules.specs.Records.{fields_of, value, is_record, record_size, in_ranges, field_sound, sound_fields, block_sound, deciding, record_among, record_in, record_refusals, found_by, find_record}
+use Rattle.rules.specs.Records.{field_at, new_values, fields_of, value, is_record, record_size, in_ranges, field_sound, sound_fields, block_sound, deciding, record_among, record_in, record_refusals, found_by, find_record}
 use Rattle.rules.specs.declared.Field.{Field}
 use Rattle.rules.specs.declared.FoundAt.{FoundAt}
 use Rattle.rules.proofs.Tests.{and-true, and_l, and_r, and_off}
@@ -20,6 +20,10 @@ use Rattle.rules.proofs.Refusals.{clear}
 use Rattle.rules.proofs.Records.{record_part_lem}
 use Rattle.parts.specs.declared.Part.{Part}
 use Rattle.parts.specs.Found.{placed}
+use Rattle.std.proofs.Common.{drop, length-take-le, length-drop}
+use Rattle.rules.specs.Parts.{part}
+use Rattle.hpx.specs.Answers.{values_at}
+use Rattle.hpx.proofs.Values.{values_of_part}
 
 -- ---- the part
 
@@ -93,32 +97,47 @@ in_long : (l : List ℕ) (f : Field) → block_sound l ≡ true → record_in l 
 unfolding block_sound record_in
 in_long l f a e = among_long l (fields_of l) f (and_r (leb (length l) max_block) (sound_fields l (fields_of l)) a) e
 
-type_2_fits : (slot block : List ℕ) → (find_record slot block 2).number ≡ 0 → 71 + (find_record slot block 2).start ≤ length (deciding slot block)
-type_2_fits slot block e =
-    let z : k ≡ 0 = sym (number_is k (record_in l 2)) ∙ e in
-    let c = finds slot block 2 z in
-    go k (record_in l 2) refl (found_fits slot block 2) c.is_there c.is_sound_lem z
-  where
-    l : List ℕ
-    l = deciding slot block
-
-    k : ℕ
-    k = first_of (record_refusals slot block 2)
-
-    go : (k : ℕ) (o : Option Field) → record_in l 2 ≡ o → (found_by k o).start + (found_by k o).size ≤ length l → is_none o ≡ false → block_sound l ≡ true
-        → k ≡ 0 → 71 + (found_by k o).start ≤ length l
-    go zero none i h n b z = absurd (true≢false n)
-    go zero (some f) i h n b z = omega (arith, in_long l f b i)
-    go (suc k) o i h n b z = absurd (omega arith)
-
 -- ---- what the search of the code gives
 
-module _ (slot block : List ℕ) where
-  -- a part that it gives lies inside the deciding block
-  pub inside : (type : ℕ) (p : Part) → placed p ≡ find_record slot block type → p.start + p.size ≤ length (deciding slot block)
-  inside type p e = subst (λ (q : FoundAt). q.start + q.size ≤ length (deciding slot block)) (sym e) (found_fits slot block type)
+-- a part that it gives lies inside the deciding block
+pub inside : (slot block : List ℕ) (type : ℕ) (p : Part) → placed p ≡ find_record slot block type → p.start + p.size ≤ length (deciding slot block)
+inside slot block type p e = subst (λ (q : FoundAt). q.start + q.size ≤ length (deciding slot block)) (sym e) (found_fits slot block type)
 
-  -- and one of type 2 has its eight pairs there
-  pub pairs_inside : (p : Part) → placed p ≡ find_record slot block 2 → 71 + p.start ≤ length (deciding slot block)
-  pairs_inside p e =
-      subst (λ (q : FoundAt). 71 + q.start ≤ length (deciding slot block)) (sym e) (type_2_fits slot block (sym (ap (λ (q : FoundAt). q.number) e)))
+-- a type 2 record, handed back as these bytes
+module _ (slot block bytes : List ℕ) (done : 0 ≡ (find_record slot block 2).number) (is : bytes ≡ part (find_record slot block 2) (deciding slot block)) where
+  abbrev l : List ℕ
+  l = deciding slot block
+
+  abbrev k : ℕ
+  k = first_of (record_refusals slot block 2)
+
+  none_refused : k ≡ 0
+  none_refused = sym (done ∙ number_is k (record_in l 2))
+
+  -- has its eight pairs
+  pub pairs_there : length bytes ≡ 71
+  pairs_there =
+      let c = finds slot block 2 none_refused in
+      go k (record_in l 2) refl (found_fits slot block 2) c.is_there c.is_sound_lem none_refused is
+    where
+      go : (k : ℕ) (o : Option Field) → record_in l 2 ≡ o → (found_by k o).start + (found_by k o).size ≤ length l → is_none o ≡ false
+          → block_sound l ≡ true → k ≡ 0 → bytes ≡ part (found_by k o) l → length bytes ≡ 71
+      go zero none i h n b z e = absurd (true≢false n)
+      go zero (some f) i h n b z e =
+          let size : f.size ≡ 68 = in_long l f b i in
+          let there : 3 + f.size ≤ length (drop f.start l) = omega (arith, length-drop f.start l) in
+          ap length e ∙ length-take-le (3 + f.size) (drop f.start l) there ∙ omega (arith, size)
+      go (suc k) o i h n b z e = absurd (omega arith)
+
+  -- and gives the values
+  pub values_there : (aer : Bool) (current : List ℕ) → length current ≡ 8
+      → new_values aer bytes (field_at bytes 0) 0 current ≡ values_at (first_of (record_refusals slot block 2)) aer (deciding slot block) current (record_in (deciding slot block) 2)
+  values_there aer current e =
+      let c = finds slot block 2 none_refused in
+      go k (record_in l 2) refl c.is_there c.is_sound_lem none_refused is
+    where
+      go : (k : ℕ) (o : Option Field) → record_in l 2 ≡ o → is_none o ≡ false → block_sound l ≡ true → k ≡ 0 → bytes ≡ part (found_by k o) l
+          → new_values aer bytes (field_at bytes 0) 0 current ≡ values_at k aer l current o
+      go zero none i n b z q = absurd (true≢false n)
+      go zero (some f) i n b z q = rw q (sym (values_of_part l f (3 + f.size) aer (omega (arith, in_long l f b i)) 0 current (omega arith)))
+      go (suc k) o i n b z q = absurd (omega arith)

@@ -17,10 +17,7 @@ pub fn deciding<'a>(slot: &'a [u8], block: &'a [u8]) -> &'a [u8]
     ensures { (result.now ≡ deciding slot.now block.now)
         × (result.ref_ptr ≡ deciding_at slot.now slot.entry.ref_ptr block.entry.ref_ptr) }
 {
-    if slot.len() == 0 {
-        return block;
-    }
-    slot
+    if slot.is_empty() { block } else { slot }
 }
 
 // The record search: where the record lies in the deciding block.
@@ -71,39 +68,31 @@ fn sizes_kept(current: u32, computed: u32) -> u32
     (computed & 0xffff_8f1f) | (current & 0x70e0)
 }
 
-// The new value of register k by the record that starts at this byte of the block. Device Control and Link Control are 4 and 5.
-fn register(b: &[u8], start: usize, current: &[u32; 8], k: usize, aer: bool) -> u32
-    requires { (71 + start ≤ length b.now) × (k < 8) }
-    ensures { result ≡ new_value aer b.now (field_at b.now start) k (get_or current.now k 0) }
+// The bytes of a type 2 record, header included.
+const SETTINGS: usize = 71;
+
+// The new value of register k by its AND/OR pair in the type 2 record. Device Control and Link Control are 4 and 5.
+fn register(setting: &[u8; SETTINGS], k: usize, current: u32, aer: bool) -> u32
+    requires { k < 8 }
+    ensures { result ≡ new_value aer setting.now (field_at setting.now 0) k current }
 {
-    let value = current[k];
     if aer & (k != 4) & (k != 5) {
-        return value;
+        return current;
     }
-    let and = words::read32(b, 3 + 4 * (1 + 2 * k) + start);
-    let or = words::read32(b, 3 + 4 * (2 + 2 * k) + start);
-    let computed = and_or(value, and, or);
+    let and = words::read32(setting, 3 + 4 * (1 + 2 * k));
+    let or = words::read32(setting, 3 + 4 * (2 + 2 * k));
+    let computed = and_or(current, and, or);
     if k == 4 {
-        return sizes_kept(value, computed);
+        return sizes_kept(current, computed);
     }
     computed
 }
 
-// The eight new values of the record that starts at this byte of the block.
-pub fn new_values(b: &[u8], start: usize, current: &[u32; 8], aer: bool) -> [u32; 8]
-    requires { 71 + start ≤ length b.now }
-    ensures { result ≡ new_values aer b.now (field_at b.now start) 0 current.now }
+// The eight new values by the type 2 record.
+fn new_values(setting: &[u8; SETTINGS], current: &[u32; 8], aer: bool) -> [u32; 8]
+    ensures { result ≡ new_values aer setting.now (field_at setting.now 0) 0 current.now }
 {
-    [
-        register(b, start, current, 0, aer),
-        register(b, start, current, 1, aer),
-        register(b, start, current, 2, aer),
-        register(b, start, current, 3, aer),
-        register(b, start, current, 4, aer),
-        register(b, start, current, 5, aer),
-        register(b, start, current, 6, aer),
-        register(b, start, current, 7, aer),
-    ]
+    std::array::from_fn(|k| register(setting, k, current[k], aer))
 }
 
 // 8, 9, else the new values.
@@ -118,7 +107,6 @@ pub fn register_values<'a>(
         (deciding slot.now block.now) current.now
         (record_in (deciding slot.now block.now) 2) }
 {
-    let decided = deciding(slot, block);
-    let found = records::search_block(decided, 2)?;
-    Ok(new_values(decided, found.start, current, aer))
+    let setting = find_record(slot, block, 2)?;
+    Ok(new_values(setting.first_chunk().unwrap(), current, aer))
 }

@@ -10,7 +10,7 @@ use Rattle.records.specs.Fields.{bytes_of, field_of, IsSplit, judged}
 use Rattle.records.specs.declared.Tagged.{Tagged}
 
 -- a DWORD by its four bytes
-same_dword : (l m : List ℕ) (i j : ℕ) → ((a b n : ℕ) → n < 4 → a ≡ n + i → b ≡ n + j → byte l a ≡ byte m b) → dword l i ≡ dword m j
+pub same_dword : (l m : List ℕ) (i j : ℕ) → ((a b n : ℕ) → n < 4 → a ≡ n + i → b ≡ n + j → byte l a ≡ byte m b) → dword l i ≡ dword m j
 same_dword l m i j h =
     let a : byte l i ≡ byte m j = h _ _ 0 (omega arith) (omega arith) (omega arith) in
     let b : byte l (1 + i) ≡ byte m (1 + j) = h _ _ 1 (omega arith) (omega arith) (omega arith) in

@@ -87,6 +87,7 @@ impl<'a> Tagged<'a> {
 }
 
 // One pass over a block: sound or not, and where the asked record lies.
+#[tactic(auto, using(crate::proofs::Walking::too_long, crate::proofs::Walking::starts), unfolding(rules::specs::Limits::max_block))]
 pub fn search_block(b: &[u8], record_type: u32) -> Result<Part, Refusal>
     ensures { found_at result ≡ find_record [] b.now record_type }
 {

@@ -1,17 +1,8 @@
-use Rattle.std.proofs.Common.{◌≡◌, sym, ◌∙◌, arith}
+use Rattle.std.proofs.Common.{◌≡◌, sym, ◌∙◌}
 use Rattle.std.proofs.lemmas.Result.{err_from_is_err_and}
-use Rattle.rules.specs.Limits.{max_block}
 use Rattle.codes.specs.declared.Refusal.TheVariants.{RecordBlock}
-use Rattle.records.proofs.Walking.{too_long, starts, walked, runs_out, refuses, refuses_second, skips, keeps, passes_by}
+use Rattle.records.proofs.Walking.{walked, runs_out, refuses, refuses_second, skips, keeps, passes_by}
 use Rattle.records.proofs.search_block.Goals as goal
-
-pub returns-then-b-gt-MAX_BLOCK : goal.returns-then-b-gt-MAX_BLOCK
-unfolding max_block
-returns-then-b-gt-MAX_BLOCK c = too_long c.args.b.now c.args.record_type (omega arith)
-
-pub loop-rest-init : goal.loop-rest-init
-unfolding max_block
-loop-rest-init c = starts c.args.b.now c.args.record_type (omega arith)
 
 pub returns-in_err-field : goal.returns-in_err-field
 returns-in_err-field c =
