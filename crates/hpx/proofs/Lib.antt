@@ -1,4 +1,3 @@
-pub mod Decides
 pub mod Searches
 pub mod Sizes
 pub mod Values
