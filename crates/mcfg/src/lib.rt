@@ -130,11 +130,11 @@ fn entries_sound(records: &[[u8; 16]]) -> bool
     records.iter().all(|record| entry_sound(entry_in(record)))
 }
 
-// An entry is apart from each of others.
-fn apart_from_all(e: Entry, others: &[[u8; 16]]) -> bool
-    ensures { result ≡ every (seen_apart e) (map entry_in others.now) }
+// An entry is apart from each of the rest.
+fn apart_from_rest(e: Entry, rest: &[[u8; 16]]) -> bool
+    ensures { result ≡ every (seen_apart e) (map entry_in rest.now) }
 {
-    for other in others {
+    for other in rest {
         if !apart(e, entry_in(other)) {
             return false;
         }
@@ -148,7 +148,7 @@ fn entries_apart(records: &[[u8; 16]]) -> bool
 {
     let mut rest = records;
     while let Some((first, later)) = rest.split_first() {
-        if !apart_from_all(entry_in(first), later) {
+        if !apart_from_rest(entry_in(first), later) {
             return false;
         }
         rest = later;

