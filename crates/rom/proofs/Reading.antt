@@ -1,4 +1,4 @@
--- The image reader: an image is read where all that is sound of it holds; where one thing fails the chain is broken.
+-- The image reader: an image is read where all that is sound of it holds.
 -- Assumes nothing.
 use Prim.Native.Nat.{ℕ, suc, ◌+◌, ◌-◌, ◌≤◌, ◌<◌}
 use mathlib.Core.Path.{◌≡◌, refl, sym, ap, ◌∙◌, subst}
@@ -13,8 +13,7 @@ use lib.Seq.{drop-cons}
 use Rattle.rules.specs.Numbers.{byte, word, same_bytes}
 use Rattle.rules.specs.Rom.{image_signature, structure_signature, structure_at, image_at, image_sound}
 use Rattle.rules.specs.declared.Image.{Image}
-use Rattle.rules.proofs.Tests.{fails}
-use Rattle.rules.proofs.Rom.{SoundImage, sound_image, unit}
+use Rattle.rules.proofs.Rom.{sound_image, unit}
 use Rattle.rom.specs.Images.{image_read}
 use Rattle.std.specs.Prelude.{Ok, Err}
 use Rattle.codes.specs.declared.Refusal.{Refusal}
@@ -40,40 +39,18 @@ as_number l i h bytes =
     go true e false f = sym (ne_eqb (word l i) 0xAA55 (λ z. true≢false (sym (eq-eqb (byte l (1 + i)) 0xAA (omega (arith, eqb-true (byte l i) 0x55 e))) ∙ f)))
     go false e q f = sym (ne_eqb (word l i) 0xAA55 (λ z. true≢false (sym (eq-eqb (byte l i) 0x55 (omega (arith, bytes i, bytes (1 + i)))) ∙ e)))
 
-module _ (l : List ℕ) (i : ℕ) where
-  broken : (SoundImage l (image_at l i) → ⊥) → Err Rom ≡ image_read l i
-  broken n = rw (fails (image_sound l (image_at l i)) (λ e. n (sound_image l (image_at l i) e)))
+-- an image of which all holds that the reader asks
+pub whole : (l : List ℕ) (i structure size : ℕ) → structure ≡ structure_at l i → size ≡ (image_at l i).size
+    → same_bytes (take 2 (drop i l)) image_signature ≡ true → same_bytes (take 4 (drop structure l)) structure_signature ≡ true
+    → size + i ≤ length l → 24 + structure ≤ length l → (size ≡ 0 → ⊥) → Ok (record { start = i; structure = structure; size = size }) ≡ image_read l i
+whole l i structure size at long signature letters ends structure_ends not_empty =
+    ap Ok image ∙ rw (sym (ap (image_sound l) image) ∙ sound)
+  where
+    image : record { start = i; structure = structure; size = size } ≡ image_at l i
+    image = rw (at, long)
 
-  -- one thing fails
-
-  pub other_signature : same_bytes (take 2 (drop i l)) image_signature ≡ false → Err Rom ≡ image_read l i
-  other_signature h = broken (λ s. true≢false (sym s.signature ∙ h))
-
-  module _ (structure : ℕ) (at : structure ≡ structure_at l i) where
-    pub structure_cut : length l < 24 + structure → Err Rom ≡ image_read l i
-    structure_cut h = broken (λ s. absurd (omega (arith, s.structure_ends, at)))
-
-    pub other_letters : same_bytes (take 4 (drop structure l)) structure_signature ≡ false → Err Rom ≡ image_read l i
-    other_letters h = broken (λ s. true≢false (sym s.letters ∙ sym (ap (λ (n : ℕ). same_bytes (take 4 (drop n l)) structure_signature) at) ∙ h))
-
-    module _ (size : ℕ) (long : size ≡ (image_at l i).size) where
-      pub no_length : size ≡ 0 → Err Rom ≡ image_read l i
-      no_length h = broken (λ s. s.not_empty (sym long ∙ h))
-
-      pub image_cut : length l < size + i → Err Rom ≡ image_read l i
-      image_cut h = broken (λ s. absurd (omega (arith, s.ends, long)))
-
-      -- all holds
-      pub whole : same_bytes (take 2 (drop i l)) image_signature ≡ true → same_bytes (take 4 (drop structure l)) structure_signature ≡ true
-          → size + i ≤ length l → 24 + structure ≤ length l → (size ≡ 0 → ⊥) → Ok (record { start = i; structure = structure; size = size }) ≡ image_read l i
-      whole signature letters ends structure_ends not_empty =
-          ap Ok image ∙ rw (sym (ap (image_sound l) image) ∙ sound)
-        where
-          image : record { start = i; structure = structure; size = size } ≡ image_at l i
-          image = rw (at, long)
-
-          sound : image_sound l (record { start = i; structure = structure; size = size }) ≡ true
-          sound = rw (signature, letters, le-leb (size + i) (length l) ends, le-leb (24 + structure) (length l) structure_ends, ne_eqb size 0 not_empty)
+    sound : image_sound l (record { start = i; structure = structure; size = size }) ≡ true
+    sound = rw (signature, letters, le-leb (size + i) (length l) ends, le-leb (24 + structure) (length l) structure_ends, ne_eqb size 0 not_empty)
 
 -- ---- what was read
 

@@ -73,7 +73,7 @@ fn chain_sound(rom: &[u8], from: usize) -> bool
     requires { from ≤ length rom.now }
     ensures { result ≡ chain_sound rom.now from }
 {
-    // Stays: as in `search`, the walk goes on by each image's length, which the ROM says.
+    // Stays: a walk of its own; of one function for both, with a closure for where to stop, each caller has to ask again what stopped it.
     let mut at = from;
     while 26 <= rom.len() - at {
         let Ok(m) = read_image(rom, at) else {
@@ -126,7 +126,7 @@ pub fn search<'a>(rom: &'a [u8], vendor: u32, device: u32, code_type: u32) -> Re
     if too_large(rom) {
         return Err(Refusal::Rom);
     }
-    // Stays: the walk goes on by each image's length, which the ROM says; with the bytes left in place of the index a part's start is a subtraction.
+    // Stays: by an index, which goes on by a length that the ROM says; by the bytes left, each start would be a difference of two lengths.
     let mut at = 0;
     while 26 <= rom.len() - at {
         let m = read_image(rom, at)?;

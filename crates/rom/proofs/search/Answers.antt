@@ -59,9 +59,3 @@ loop-at-preserved c =
 
 pub returns : goal.returns
 returns c = at_end _ _ _ _ c.loop-at.invariant (omega arith)
-
-pub overflow_add-at : goal.overflow_add-at
-overflow_add-at c = omega (arith, image_fits c.args.rom.now c.loop-at.at c.in_ok-m.m c.in_ok-m.ensures)
-
-pub loop-at-smaller : goal.loop-at-smaller
-loop-at-smaller c = omega (arith, image_fits c.args.rom.now c.loop-at.at c.in_ok-m.m c.in_ok-m.ensures)
