@@ -1,6 +1,6 @@
-// The calls of document 01 on a lent table, the record search, and of document 02 the image search (a) and the writer (g): what C and Rust link, through crates/slipwattle_c. Each call on a table works on one bridge where it stands: the call on the
-// bridge hands it back, and what it holds, all that a call changes, is stored where the number is 0; a refused call stores nothing in the table. Some bridge is read whatever the bridge number is
-// (one_bridge::index); the call on the bridge refuses a bridge that the table has not.
+// The calls of document 01 on a lent table, the record search, and of document 02 the image search (a) and the writer (g): what C and Rust link, through crates/slipwattle_c. Each
+// is the call of crates/bridges, or that of the search or the writer, turned into what C reads: its number, and what it hands back beside it.
+// Stays: parameters one by one, and a number with values beside it, since C passes and reads them (the signatures and clauses of slipwattle_*).
 #![tactic(auto)]
 
 ghost use Rattle.std.specs.Prelude.{◌≡◌, [], ◌∷◌};
@@ -23,12 +23,25 @@ ghost use Rattle.rules.specs.Calls.{
 };
 ghost use Rattle.rules.specs.Rom.{find_image};
 ghost use Rattle.rules.specs.Writer.{write_records, buffer_after};
+ghost use Rattle.codes.specs.Numbers.{number, given};
 ghost use Rattle.slipwattle.specs.Boundary.{record_at};
 
+use codes::Refusal;
+use ecam::Asked;
+use osc::Request;
+use parts::Part;
 use rules::{
-    Addressed, BridgeNumber, BridgeRow, FoundAt, Located, RecordAt, Reported, SessionNumber,
-    Settings, Started, Table, Values, Written,
+    Addressed, BridgeNumber, BridgeRow, FoundAt, Holding, Located, Place, RecordAt, Reported,
+    SessionNumber, Settings, Started, Table, Values, Written,
 };
+
+// A call's number, and what it hands back beside it: zeros where it is refused.
+fn crossing<T: Copy>(done: Result<T, Refusal>, zeros: T) -> (u8, T)
+    ensures number { result.0 ≡ number done }
+    ensures given { result.1 ≡ given zeros done }
+{
+    (codes::number(done), done.unwrap_or(zeros))
+}
 
 // The table of the rows, of any number, or a refusal and no bridges.
 pub fn slipwattle_start(mcfg: &[u8], rows: &[BridgeRow]) -> Started
@@ -60,36 +73,20 @@ pub fn slipwattle_osc(
         ≡ (step t.old (on s n (osc revision count uuid.now caps.now answer.old))).outcome)
         × (t.new ≡ (step t.old (on s n (osc revision count uuid.now caps.now answer.old))).table) }
 {
-    let i = one_bridge::index(n);
-    let done = one_bridge::osc(
-        t.count,
-        t.bridges[i],
-        s,
-        n,
+    let request = Request {
         revision,
         count,
         uuid,
         caps,
-        answer,
-    );
-    if done.number == 0 {
-        t.bridges[i].held = done.bridge.held;
-        t.bridges[i].supported = done.bridge.supported;
-    }
-    done.number
+    };
+    codes::number(bridges::osc(t, s, n, request, answer))
 }
 
 pub fn slipwattle_reset(t: &mut Table, s: SessionNumber, n: BridgeNumber) -> u8
     requires { Sound t.old }
     ensures { (outcome result nothing [] ≡ (step t.old (on s n reset)).outcome) × (t.new ≡ (step t.old (on s n reset)).table) }
 {
-    let i = one_bridge::index(n);
-    let done = one_bridge::reset(t.count, t.bridges[i], s, n);
-    if done.number == 0 {
-        t.bridges[i].held = done.bridge.held;
-        t.bridges[i].supported = done.bridge.supported;
-    }
-    done.number
+    codes::number(bridges::reset(t, s, n))
 }
 
 pub fn slipwattle_report(t: &mut Table, s: SessionNumber, n: BridgeNumber) -> Reported
@@ -97,8 +94,8 @@ pub fn slipwattle_report(t: &mut Table, s: SessionNumber, n: BridgeNumber) -> Re
     ensures { (outcome result.number (reported result.holding) [] ≡ (step t.old (on s n report)).outcome)
         × (t.new ≡ (step t.old (on s n report)).table) }
 {
-    let i = one_bridge::index(n);
-    one_bridge::report(t.count, t.bridges[i], s, n)
+    let (number, holding) = crossing(bridges::report(t, s, n), Holding::default());
+    Reported { number, holding }
 }
 
 // The numbers of a place are u32, so that device 256 is refused and not taken for device 0.
@@ -116,54 +113,44 @@ pub fn slipwattle_address(
     ensures { (outcome result.number (addressed result.address) [] ≡ (step t.old (on s n (address bus device function offset width))).outcome)
         × (t.new ≡ (step t.old (on s n (address bus device function offset width))).table) }
 {
-    let i = one_bridge::index(n);
-    one_bridge::address(
-        t.count,
-        t.bridges[i],
-        s,
-        n,
+    let asked = Asked {
         bus,
         device,
         function,
         offset,
         width,
-    )
+    };
+    let (number, address) = crossing(bridges::address(t, s, n, asked), 0);
+    Addressed { number, address }
 }
 
-// The bridges are searched where they stand; locate::seek looks at one.
-#[tactic(auto, unfolding(rules::specs::Limits::max_rows))]
+// The bridges are searched where they stand.
 pub fn slipwattle_locate(t: &mut Table, s: SessionNumber, address: u64) -> Located
     requires { Sound t.old }
     ensures { (outcome result.number (located result.place) [] ≡ (step t.old (locate s address)).outcome)
         × (t.new ≡ (step t.old (locate s address)).table) }
 {
-    let n = t.count;
-    let mut p = locate::begin();
-    while p.next < n {
-        let i = p.next;
-        p = locate::seek(p, n, t.bridges[i], s, address);
-    }
-    p.found
+    let (number, place) = crossing(bridges::locate(t, s, address), Place::default());
+    Located { number, place }
 }
 
 // The record type is u32, so that type 256 is refused and not taken for type 0.
 pub fn slipwattle_find_record<'a>(slot: &'a [u8], block: &'a [u8], record_type: u32) -> RecordAt
     ensures { result ≡ record_at slot.now block.now record_type }
 {
-    let found = hpx::search(slot, block, record_type);
-    if found.number != 0 {
-        return RecordAt {
-            number: found.number,
+    match hpx::search(slot, block, record_type) {
+        Ok(Part { start, size }) => RecordAt {
+            number: 0,
+            in_slot: slot.len() != 0,
+            start,
+            size,
+        },
+        Err(refusal) => RecordAt {
+            number: u8::from(refusal),
             in_slot: false,
             start: 0,
             size: 0,
-        };
-    }
-    RecordAt {
-        number: 0,
-        in_slot: slot.len() != 0,
-        start: found.start,
-        size: found.size,
+        },
     }
 }
 
@@ -171,14 +158,15 @@ pub fn slipwattle_find_record<'a>(slot: &'a [u8], block: &'a [u8], record_type: 
 pub fn slipwattle_find_image(rom: &[u8], vendor: u32, device: u32, code_type: u32) -> FoundAt
     ensures { result ≡ find_image rom.now vendor device code_type }
 {
-    rom::search(rom, vendor, device, code_type)
+    parts::found_at(rom::search(rom, vendor, device, code_type))
 }
 
 // Setting records by value, those present laid down at the start of the buffer by rising type; the rest of it is left untouched.
 pub fn slipwattle_write_records(settings: Settings, buffer: &mut [u8]) -> Written
     ensures { (result ≡ write_records settings buffer.old) × (buffer.new ≡ buffer_after settings buffer.old) }
 {
-    writer::write_records(settings, buffer)
+    let (number, length) = crossing(writer::write_records(settings, buffer), 0);
+    Written { number, length }
 }
 
 pub fn slipwattle_register_values<'a>(
@@ -194,6 +182,7 @@ pub fn slipwattle_register_values<'a>(
         ≡ (step t.old (on s n (register_values slot.now block.now current.now))).outcome)
         × (t.new ≡ (step t.old (on s n (register_values slot.now block.now current.now))).table) }
 {
-    let i = one_bridge::index(n);
-    one_bridge::register_values(t.count, t.bridges[i], s, n, slot, block, current)
+    let found = bridges::register_values(t, s, n, slot, block, current);
+    let (number, values) = crossing(found, [0; 8]);
+    Values { number, values }
 }
