@@ -27,7 +27,7 @@ use codes::Refusal;
 use ecam::Asked;
 use one_bridge::BridgeCall;
 use osc::Request;
-use rules::{Bridge, BridgeNumber, Holding, Place, SessionNumber, Table};
+use rules::{BridgeNumber, Holding, Place, SessionNumber, Table};
 
 // The call of session s on bridge n.
 fn call(t: &Table, s: SessionNumber, n: BridgeNumber) -> BridgeCall
@@ -51,11 +51,10 @@ fn store(t: &mut Table, n: BridgeNumber, done: Result<Holding, Refusal>) -> Resu
 {
     let Holding { held, supported } = done?;
     let i = one_bridge::index(n);
-    t.bridges[i] = Bridge {
-        held,
-        supported,
-        ..t.bridges[i]
-    };
+    let mut bridge = t.bridges[i];
+    bridge.held = held;
+    bridge.supported = supported;
+    t.bridges[i] = bridge;
     Ok(())
 }
 
