@@ -2,30 +2,15 @@
 -- Assumes nothing.
 use Prim.Native.Nat.{ℕ, suc, ◌+◌, ◌*◌, ◌≤◌, ◌<◌}
 use mathlib.Core.Path.{◌≡◌, refl, sym, ap, ap₂, ◌∙◌}
-use mathlib.Core.List.{List, [], ◌∷◌, ◌++◌, append_assoc, append-nil}
+use mathlib.Core.List.{List, [], ◌∷◌, ◌++◌, append_assoc}
 use native.Mathlib.Nat.{add_comm}
 use native.Mathlib.Omega.{arith}
-use lib.ListN.{length, get_or, take, drop, set, length-append, take-append-drop}
-use lib.Seq.{length-take-le, take-suc, take-length, take_at, drop_at, drop-drop, set_split}
+use lib.ListN.{length, get_or, take, drop, set, length-append}
+use lib.Seq.{length-take-le, take-suc, take_at, drop_at, drop-drop, set_split}
 use Rattle.rules.specs.Numbers.{le16, le32, dwords}
 use Rattle.rules.specs.Writer.{record_bytes}
 use Rattle.rules.proofs.Laying.{dwords_length}
 use Rattle.writer.specs.Splices.{splice}
-
--- no bytes change nothing
-pub splice_none : (at : ℕ) (b : List ℕ) → b ≡ splice at [] b
-splice_none at b =
-    sym (ap₂ (λ (l : List ℕ) (n : ℕ). l ++ drop n b) (append-nil (take at b)) (none at) ∙ take-append-drop at b)
-  where
-    none : (n : ℕ) → 0 + n ≡ n
-    none n = omega arith
-
--- what was to be written, and where it ends, where that is nothing, and where it is y
-pub nothing_written : (at : ℕ) (x b : List ℕ) → x ≡ [] → (at ≡ length x + at) × (b ≡ splice at x b)
-nothing_written at x b e = rw e (omega arith, splice_none at b)
-
-pub these_written : (at n : ℕ) (x y b b₁ : List ℕ) → x ≡ y → n ≡ length y + at → b₁ ≡ splice at y b → (n ≡ length x + at) × (b₁ ≡ splice at x b)
-these_written at n x y b b₁ e f g = rw e (f, g)
 
 -- at the start
 pub splice_first : (x b : List ℕ) → splice 0 x b ≡ x ++ drop (length x) b
@@ -94,10 +79,6 @@ number_next k at v b₀ b b₁ h i e f =
 
     more : dwords (take (k + 1) v) ≡ dwords (take k v) ++ le32 (get_or v k 0)
     more = ap dwords (ap (λ (n : ℕ). take n v) (next k) ∙ take-suc v k 0 h) ∙ dwords_append (take k v) (get_or v k 0 ∷ [])
-
--- all of them
-pub numbers_all : (k at : ℕ) (v b₀ b : List ℕ) → k ≡ length v → b ≡ numbers_written k at v b₀ → b ≡ splice at (dwords v) b₀
-numbers_all k at v b₀ b h e = e ∙ ap (λ (x : List ℕ). splice at (dwords x) b₀) (ap (λ (n : ℕ). take n v) h ∙ take-length v)
 
 -- ---- a record
 
