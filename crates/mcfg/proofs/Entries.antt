@@ -1,6 +1,6 @@
 -- The entries of a table, record by record, and the window of a sound entry.
 -- Assumes nothing.
-use Rattle.std.proofs.Common.{◌≡◌, ℕ, zero, suc, ◌+◌, ◌-◌, ◌*◌, ◌/◌, ◌^◌, ◌≤◌, ◌<◌, true, List, ◌∷◌, map, length, get_or, take, drop, leb, ltb, refl, sym, ap, ap₂, ◌∙◌, arith, drop-drop, length-drop}
+use Rattle.std.proofs.Common.{◌≡◌, ℕ, zero, suc, ◌+◌, ◌-◌, ◌/◌, ◌^◌, ◌≤◌, ◌<◌, true, List, ◌∷◌, map, length, get_or, take, drop, leb, ltb, refl, sym, ap, ap₂, ◌∙◌, arith, drop-drop, length-drop}
 use Rattle.std.specs.Simd.{first_chunks}
 use Rattle.std.proofs.lemmas.List.{get_or-take, get_or-drop}
 use borrow.Author.Tests.{leb-true, le-leb, ltb-true, lt-ltb}
@@ -62,12 +62,6 @@ from_length (suc n) m i = ap suc (from_length n m (16 + i))
 pub entries_length : (m : List ℕ) → length (entries m) ≡ (length m - 44) / 16
 unfolding entries
 entries_length m = from_length ((length m - 44) / 16) m 44
-
--- a window ends at 2^64 at most, without a sum that wraps
-pub ends_by : (base end : ℕ) → end < 256 → leb base ((2 ^ 44 - 1 - end) * 2 ^ 20) ≡ leb (bus_end base end) (2 ^ 64)
-ends_by base end h = same_test _ _
-    (λ e. let k = leb-true base ((2 ^ 44 - 1 - end) * 2 ^ 20) e in le-leb (bus_end base end) (2 ^ 64) (omega arith))
-    (λ e. let k = leb-true (bus_end base end) (2 ^ 64) e in le-leb base ((2 ^ 44 - 1 - end) * 2 ^ 20) (omega arith))
 
 -- the buses of a sound entry are in order
 pub in_order : (e : Entry) → entry_sound e ≡ true → e.start_bus ≤ e.end_bus
