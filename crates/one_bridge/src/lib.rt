@@ -17,6 +17,8 @@ ghost use Rattle.rules.specs.Calls.{
   addressed,
   values,
   outcome,
+  absent,
+  foreign,
   number_at,
 };
 ghost use Rattle.codes.specs.Numbers.{number, given};
@@ -59,30 +61,56 @@ pub fn index(n: BridgeNumber) -> usize
 }
 
 impl BridgeCall {
+    // Refusal 1.
+    fn absent(self) -> bool
+        ensures { result ≡ absent self.bridges self.number }
+    {
+        self.bridges <= usize::from(self.number.0)
+    }
+
+    // Refusal 2.
+    fn foreign(self) -> bool
+        ensures { result ≡ foreign self.session self.bridge }
+    {
+        self.bridge.owner != self.session
+    }
+
     // Refusals 1 and 2, which are those of reset and of report.
     fn allowed(self) -> Result<(), Refusal>
         ensures { number result ≡ number_at self.bridges self.session self.number self.bridge reset }
     {
-        if self.bridges <= usize::from(self.number.0) {
+        if self.absent() {
             return Err(Refusal::NoSuchBridge);
         }
-        if self.bridge.owner != self.session {
+        if self.foreign() {
             return Err(Refusal::NotOwner);
         }
         Ok(())
     }
 
+    // Stays: the two tests written out; by `allowed` and `?` a reset takes 26 instructions in place of 17.
     pub fn reset(self) -> Result<Holding, Refusal>
         ensures { (outcome (number result) nothing [] ≡ outcome_of self reset) × (keeping self.bridge result ≡ after self reset) }
     {
-        self.allowed()?;
+        if self.absent() {
+            return Err(Refusal::NoSuchBridge);
+        }
+        if self.foreign() {
+            return Err(Refusal::NotOwner);
+        }
         Ok(Holding::default())
     }
 
+    // Stays: the two tests written out; by `allowed` and `?` a report takes 30 instructions in place of 25.
     pub fn report(self) -> Result<Holding, Refusal>
         ensures { outcome (number result) (reported (given nothing_held result)) [] ≡ outcome_of self report }
     {
-        self.allowed()?;
+        if self.absent() {
+            return Err(Refusal::NoSuchBridge);
+        }
+        if self.foreign() {
+            return Err(Refusal::NotOwner);
+        }
         Ok(Holding {
             held: self.bridge.held,
             supported: self.bridge.supported,
