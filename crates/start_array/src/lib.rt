@@ -10,6 +10,7 @@ use rules::{BridgeRow, Started};
 pub const LIST_ROWS: usize = rules::MAX_ROWS + 1;
 
 // Start with the first `count` rows of an array by value.
+// Stays: an array with a count, which serves the core first by document 01 (docs/REQUIREMENTS, B131); over a slice it is `slipwattle_start`.
 pub fn start_array(mcfg: &[u8], rows: [BridgeRow; LIST_ROWS], count: usize) -> Started
     ensures { (result.number ≡ start_number (record { mcfg = mcfg.now; rows = take count rows }))
         × (result.table ≡ start_table (record { mcfg = mcfg.now; rows = take count rows })) }
