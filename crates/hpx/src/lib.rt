@@ -13,6 +13,7 @@ use codes::Refusal;
 use parts::Part;
 
 // If the slot's block is not empty it alone decides.
+// Stays: two slices, slot and block, as slipwattle_find_record and its clauses name them; a struct of the two would be made for one call and taken apart in it.
 pub fn deciding<'a>(slot: &'a [u8], block: &'a [u8]) -> &'a [u8]
     ensures { (result.now ≡ deciding slot.now block.now)
         × (result.ref_ptr ≡ deciding_at slot.now slot.entry.ref_ptr block.entry.ref_ptr) }

@@ -26,6 +26,7 @@ pub fn cut<'a>(b: &'a [u8], at: Part) -> &'a [u8]
 }
 
 // As it crosses to C: the empty part beside the number of a refusal.
+// Stays: a function, since a From between FoundAt and Result, both of other crates, may not be written here.
 pub fn found_at(found: Result<Part, Refusal>) -> FoundAt
     ensures { result ≡ found_at found }
 {
