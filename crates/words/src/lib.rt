@@ -1,27 +1,19 @@
 // Little-endian numbers in lent buffers, byte strings compared, the byte sum.
 #![tactic(auto)]
 
-ghost use Rattle.std.specs.Prelude.{◌≡◌, ℕ, ◌+◌, ◌%◌, ◌<◌, ◌≤◌, slice_index, ◌++◌, length, take, drop};
+ghost use Rattle.std.specs.Prelude.{◌≡◌, ◌+◌, ◌%◌, ◌≤◌, ◌++◌, length, take, drop};
 ghost use Rattle.std.specs.List.{sum_by};
 ghost use Rattle.rules.specs.Numbers.{word, dword, qword, le16, le32, sum, same_bytes};
 ghost use Rattle.words.specs.Sums.{lanes_sum};
 
 use std::simd::prelude::*;
 
-// The N bytes from `at` on.
-fn bytes<const N: usize>(b: &[u8], at: usize) -> &[u8; N]
-    requires { N + at ≤ length b.now }
-    ensures { (k : ℕ) → k < N → slice_index result.now k ≡ slice_index b.now (k + at) }
-{
-    b[at..].first_chunk().unwrap()
-}
-
 // The 2 bytes from `at` on.
 pub fn read16(b: &[u8], at: usize) -> u16
     requires { 2 + at ≤ length b.now }
     ensures { result ≡ word b.now at }
 {
-    u16::from_le_bytes(*bytes(b, at))
+    u16::from_le_bytes([b[at], b[1 + at]])
 }
 
 // The 4 bytes from `at` on.
@@ -29,7 +21,7 @@ pub fn read32(b: &[u8], at: usize) -> u32
     requires { 4 + at ≤ length b.now }
     ensures { result ≡ dword b.now at }
 {
-    u32::from_le_bytes(*bytes(b, at))
+    u32::from_le_bytes([b[at], b[1 + at], b[2 + at], b[3 + at]])
 }
 
 // The 8 bytes from `at` on.
@@ -37,7 +29,8 @@ pub fn read64(b: &[u8], at: usize) -> u64
     requires { 8 + at ≤ length b.now }
     ensures { result ≡ qword b.now at }
 {
-    u64::from_le_bytes(*bytes(b, at))
+    let (low, high) = (read32(b, at), read32(b, 4 + at));
+    u64::from(low) + (u64::from(high) << 32)
 }
 
 // A WORD's bytes from `at` on; the rest stays.
