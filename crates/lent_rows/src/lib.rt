@@ -16,15 +16,18 @@ fn apart_before(before: &[BridgeRow], row: BridgeRow) -> bool
     before.iter().all(|q| start::rows_apart(*q, row))
 }
 
-// The rows judged one after the other, up to the first that is refused: how many, each with its bridge written in its place in the array of a table. It is cleared where a row is refused.
+// The rows judged one after the other, up to the first that is refused: how many, each with its bridge in its place in the array of a table. It is cleared first, and again where a row is refused.
+// Not inlined, so that start makes its array once and copies it once.
+#[inline(never)]
 #[tactic(auto, unfolding(rules::specs::Limits::max_rows))]
 pub fn judge(
     mcfg: &[u8],
     rows: &[BridgeRow],
     bridges: &mut [Bridge; rules::MAX_ROWS],
 ) -> Result<usize, Refusal>
-    ensures { Judges (record { mcfg = mcfg.now; rows = rows.now }) result bridges.old bridges.new }
+    ensures { Judges (record { mcfg = mcfg.now; rows = rows.now }) result bridges.new }
 {
+    *bridges = start::no_bridges();
     start::first_refusal(mcfg, rows.len())?;
     for (i, row) in rows.iter().enumerate() {
         match start::admit(mcfg, *row, apart_before(&rows[..i], *row)) {

@@ -48,13 +48,13 @@ pub fn slipwattle_start(mcfg: &[u8], rows: &[BridgeRow]) -> Started
     ensures { (result.number ≡ start_number (record { mcfg = mcfg.now; rows = rows.now }))
         × (result.table ≡ start_table (record { mcfg = mcfg.now; rows = rows.now })) }
 {
-    let mut table = Table {
-        bridges: start::no_bridges(),
-        count: 0,
-    };
-    let judged = lent_rows::judge(mcfg, rows, &mut table.bridges);
-    let number = start::settle(&mut table, judged);
-    Started { table, number }
+    let mut bridges = start::no_bridges();
+    let judged = lent_rows::judge(mcfg, rows, &mut bridges);
+    let (number, count) = start::settle(judged);
+    Started {
+        table: Table { bridges, count },
+        number,
+    }
 }
 
 // _OSC: the answer buffer is filled, or left as it was lent.

@@ -42,59 +42,58 @@ module _ (x : StartInput) where
   unfolding start_table start_number
   all_admitted m r = rw (m, r) (refl, refl)
 
-  -- a refusal of start's number, with an array that is as it was, or cleared
-  refusal : (r : Refusal) (before after : List Bridge) → Refused (number_of r) → (before ≡ no_bridges → after ≡ no_bridges) → Judges x (Err r) before after
-  refusal r before after is clear = (is.0, λ none. clear none ∙ ap (λ (t : Table). t.bridges) is.1, ap (λ (t : Table). t.count) is.1)
+  -- a refusal of start's number, with a cleared array
+  refusal : (r : Refusal) → Refused (number_of r) → Judges x (Err r) no_bridges
+  refusal r is = (is.0, ap (λ (t : Table). t.bridges) is.1, ap (λ (t : Table). t.count) is.1)
 
-  module _ (before : List Bridge) where
-    -- no row is refused so far: the first i are judged
-    pub record Reached (i : ℕ) (l : List Bridge) : Type 0 where
-      pub sound : mcfg_sound x.mcfg ≡ true
-      pub few : length x.rows ≤ max_rows
-      pub listed : Listed es x.rows i before l
+  -- no row is refused so far: the first i are judged
+  pub record Reached (i : ℕ) (l : List Bridge) : Type 0 where
+    pub sound : mcfg_sound x.mcfg ≡ true
+    pub few : length x.rows ≤ max_rows
+    pub listed : Listed es x.rows i no_bridges l
 
-    -- what is refused before the first row
-    pub first_refused : (r : Refusal) → Err r ≡ first_refusal x.mcfg (length x.rows) → Judges x (Err r) before before
-    first_refused r e = go (mcfg_sound x.mcfg) (leb (length x.rows) max_rows) refl refl e
-      where
-        go : (a b : Bool) → mcfg_sound x.mcfg ≡ a → leb (length x.rows) max_rows ≡ b → Err r ≡ cond a (cond b (Ok (tt {0})) (Err Rows)) (Err Mcfg) → Judges x (Err r) before before
-        go true true p q e = cc
-        go true false p q e =
-            let is : r ≡ Rows = cc in rw is (refusal Rows before before (rows_refused p (too_many es x.rows (leb-false (length x.rows) max_rows q))) (λ none. none))
-        go false b p q e = let is : r ≡ Mcfg = cc in rw is (refusal Mcfg before before (table_refused p) (λ none. none))
+  -- what is refused before the first row
+  pub first_refused : (r : Refusal) → Err r ≡ first_refusal x.mcfg (length x.rows) → Judges x (Err r) no_bridges
+  first_refused r e = go (mcfg_sound x.mcfg) (leb (length x.rows) max_rows) refl refl e
+    where
+      go : (a b : Bool) → mcfg_sound x.mcfg ≡ a → leb (length x.rows) max_rows ≡ b → Err r ≡ cond a (cond b (Ok (tt {0})) (Err Rows)) (Err Mcfg) → Judges x (Err r) no_bridges
+      go true true p q e = cc
+      go true false p q e =
+          let is : r ≡ Rows = cc in rw is (refusal Rows (rows_refused p (too_many es x.rows (leb-false (length x.rows) max_rows q))))
+      go false b p q e = let is : r ≡ Mcfg = cc in rw is (refusal Mcfg (table_refused p))
 
-    module _ (i : ℕ) (l : List Bridge) (reached : Reached i l) where
-      -- the next row is judged
-      module _ (left : i < length x.rows) where
-        abbrev row : BridgeRow
-        row = get_or x.rows i no_row
+  module _ (i : ℕ) (l : List Bridge) (reached : Reached i l) where
+    -- the next row is judged
+    module _ (left : i < length x.rows) where
+      abbrev row : BridgeRow
+      row = get_or x.rows i no_row
 
-        abbrev apart : Bool
-        apart = list_all (λ (q : BridgeRow). rows_apart q row) (take i x.rows)
+      abbrev apart : Bool
+      apart = list_all (λ (q : BridgeRow). rows_apart q row) (take i x.rows)
 
-        as_every : apart ≡ every (λ (q : BridgeRow). rows_apart q row) (take i x.rows)
-        as_every = every_is (λ (q : BridgeRow). rows_apart q row) (take i x.rows)
+      as_every : apart ≡ every (λ (q : BridgeRow). rows_apart q row) (take i x.rows)
+      as_every = every_is (λ (q : BridgeRow). rows_apart q row) (take i x.rows)
 
-        pub reached_next : (b : Bridge) → Ok b ≡ admitted es row apart → Reached (i + 1) (set l i b)
-        reached_next b e = go (admissible es (take i x.rows) row) refl (rw as_every at e)
-          where
-            go : (t : Bool) → admissible es (take i x.rows) row ≡ t → Ok b ≡ cond t (Ok (bridge_of es row)) (Err Rows) → Reached (i + 1) (set l i b)
-            go true ok e = let is : b ≡ bridge_of es row = cc in
-                rw is (record { sound = reached.sound; few = reached.few; listed = listed_more es x.rows i before l no_row reached.listed left reached.few ok })
-            go false broken e = cc
+      pub reached_next : (b : Bridge) → Ok b ≡ admitted es row apart → Reached (i + 1) (set l i b)
+      reached_next b e = go (admissible es (take i x.rows) row) refl (rw as_every at e)
+        where
+          go : (t : Bool) → admissible es (take i x.rows) row ≡ t → Ok b ≡ cond t (Ok (bridge_of es row)) (Err Rows) → Reached (i + 1) (set l i b)
+          go true ok e = let is : b ≡ bridge_of es row = cc in
+              rw is (record { sound = reached.sound; few = reached.few; listed = listed_more es x.rows i no_bridges l no_row reached.listed left reached.few ok })
+          go false broken e = cc
 
-        pub row_refused : (r : Refusal) → Err r ≡ admitted es row apart → Judges x (Err r) before no_bridges
-        row_refused r e = go (admissible es (take i x.rows) row) refl (rw as_every at e)
-          where
-            go : (t : Bool) → admissible es (take i x.rows) row ≡ t → Err r ≡ cond t (Ok (bridge_of es row)) (Err Rows) → Judges x (Err r) before no_bridges
-            go true ok e = cc
-            go false broken e =
-                let is : r ≡ Rows = cc in
-                rw is (refusal Rows before no_bridges (rows_refused reached.sound (listed_stop es x.rows i before l no_row reached.listed left broken)) (λ _. refl))
+      pub row_refused : (r : Refusal) → Err r ≡ admitted es row apart → Judges x (Err r) no_bridges
+      row_refused r e = go (admissible es (take i x.rows) row) refl (rw as_every at e)
+        where
+          go : (t : Bool) → admissible es (take i x.rows) row ≡ t → Err r ≡ cond t (Ok (bridge_of es row)) (Err Rows) → Judges x (Err r) no_bridges
+          go true ok e = cc
+          go false broken e =
+              let is : r ≡ Rows = cc in
+              rw is (refusal Rows (rows_refused reached.sound (listed_stop es x.rows i no_bridges l no_row reached.listed left broken)))
 
-      -- the walk has ended
-      pub answered : length x.rows ≤ i → Judges x (Ok (length x.rows)) before l
-      answered past =
-          let listed = listed_all es x.rows i before l reached.listed past reached.few in
-          let all = all_admitted reached.sound listed.0 in
-          (all.0, λ none. listed.1 none ∙ ap (λ (t : Table). t.bridges) all.1, sym (length-map x.rows (bridge_of es)) ∙ ap (λ (t : Table). t.count) all.1)
+    -- the walk has ended
+    pub answered : length x.rows ≤ i → Judges x (Ok (length x.rows)) l
+    answered past =
+        let listed = listed_all es x.rows i no_bridges l reached.listed past reached.few in
+        let all = all_admitted reached.sound listed.0 in
+        (all.0, listed.1 refl ∙ ap (λ (t : Table). t.bridges) all.1, sym (length-map x.rows (bridge_of es)) ∙ ap (λ (t : Table). t.count) all.1)

@@ -31,7 +31,6 @@ first_refusal mcfg count = cond (mcfg_sound mcfg) (cond (leb count max_rows) (Ok
 abbrev pub no_bridges : List Bridge
 no_bridges = (table_of []).bridges
 
--- rows judged, as start judges them, in an array with no bridges: its number, and its table's bridges and count
-abbrev pub Judges : StartInput → (judged : Result ℕ Refusal) → (before after : List Bridge) → Type 0
-Judges x judged before after =
-    (number judged ≡ start_number x) × (before ≡ no_bridges → after ≡ (start_table x).bridges) × (given 0 judged ≡ (start_table x).count)
+-- rows judged, as start judges them: its number, and its table's bridges and count
+abbrev pub Judges : StartInput → (judged : Result ℕ Refusal) → (bridges : List Bridge) → Type 0
+Judges x judged bridges = (number judged ≡ start_number x) × (bridges ≡ (start_table x).bridges) × (given 0 judged ≡ (start_table x).count)

@@ -108,10 +108,9 @@ pub fn no_bridges() -> [Bridge; rules::MAX_ROWS]
     [Bridge::default(); rules::MAX_ROWS]
 }
 
-// Start's number of rows judged in the array of a table, which gets their count: how many bridges there are, or none where start is refused.
-pub fn settle(table: &mut Table, judged: Result<usize, Refusal>) -> u8
-    ensures { (result ≡ number judged) × (table.new ≡ table_with table.old.bridges (given 0 judged)) }
+// Start's number, and how many bridges its table has: those of the rows judged, none where start is refused.
+pub fn settle(judged: Result<usize, Refusal>) -> (u8, usize)
+    ensures { (result.0 ≡ number judged) × (result.1 ≡ given 0 judged) }
 {
-    table.count = judged.unwrap_or(0);
-    codes::number(judged)
+    (codes::number(judged), judged.unwrap_or(0))
 }

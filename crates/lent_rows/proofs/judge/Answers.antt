@@ -5,13 +5,13 @@ use Rattle.lent_rows.proofs.judge.Goals as goal
 
 pub returns-in_err-first_refusal : goal.returns-in_err-first_refusal
 returns-in_err-first_refusal c =
-    let p = err_from_is_err_and c.from_residual.result c.from_residual.ensures.1 in rw (p.1, p.2) (first_refused _ _ _ c.in_err-first_refusal.ensures)
+    let p = err_from_is_err_and c.from_residual.result c.from_residual.ensures.1 in rw (p.1, p.2, c.no_bridges.ensures) (first_refused _ _ c.in_err-first_refusal.ensures)
 
 pub returns : goal.returns
-returns c = answered _ _ _ _ c.loop-i.invariant c.loop-i-test.false
+returns c = answered _ _ _ c.loop-i.invariant c.loop-i-test.false
 
 pub loop-i-preserved : goal.loop-i-preserved
-loop-i-preserved c = reached_next _ _ _ _ c.loop-i.invariant c.loop-i-test.true _ (rw c.apart_before.ensures at c.in-Ok.ensures)
+loop-i-preserved c = reached_next _ _ _ c.loop-i.invariant c.loop-i-test.true _ (rw c.apart_before.ensures at c.in-Ok.ensures)
 
 pub returns-in-Err : goal.returns-in-Err
-returns-in-Err c = rw c.no_bridges.ensures (row_refused _ _ _ _ c.loop-i.invariant c.loop-i-test.true _ (rw c.apart_before.ensures at c.in-Err.ensures))
+returns-in-Err c = rw c.no_bridges-in-Err.ensures (row_refused _ _ _ c.loop-i.invariant c.loop-i-test.true _ (rw c.apart_before.ensures at c.in-Err.ensures))

@@ -3,4 +3,4 @@ use Rattle.start.proofs.Judging.{Reached}
 use Rattle.lent_rows.proofs.judge.Given as goal
 
 abbrev pub invariant-loop-i : goal.invariant-loop-i
-invariant-loop-i l = Reached (record { mcfg = l.mcfg; rows = l.rows }) l.fn.bridges l.i l.bridges
+invariant-loop-i l = Reached (record { mcfg = l.mcfg; rows = l.rows }) l.i l.bridges
