@@ -1,5 +1,6 @@
 // The calls on a lent table: each is the call on one bridge where it stands, and what that gave is stored in the bridge. The index stays inside the array whatever the bridge
 // number is; the call on the bridge refuses a number that the table has not.
+// Stays: `Sound` in the clause of each; the table lies in C's memory, and a type that says it could not be lent from there (for programs, SoundTable of crates/fixtures).
 #![tactic(auto)]
 
 ghost use Rattle.std.specs.Prelude.{◌≡◌, [], ◌∷◌, replicate};

@@ -109,6 +109,7 @@ pub fn no_bridges() -> [Bridge; rules::MAX_ROWS]
 }
 
 // Start's number, and how many bridges its table has: those of the rows judged, none where start is refused.
+// Stays: a number with a value beside it, since C reads both in `Started`.
 pub fn settle(judged: Result<usize, Refusal>) -> (u8, usize)
     ensures { (result.0 ≡ number judged) × (result.1 ≡ given 0 judged) }
 {

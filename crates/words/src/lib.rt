@@ -8,6 +8,8 @@ ghost use Rattle.words.specs.Sums.{lanes_sum};
 
 use std::simd::prelude::*;
 
+// Stays: a function for each size; a trait over u16, u32 and u64 for from_le_bytes and to_le_bytes would be longer than these.
+
 // The 2 bytes from `at` on.
 pub fn read16(b: &[u8], at: usize) -> u16
     requires { 2 + at ≤ length b.now }
