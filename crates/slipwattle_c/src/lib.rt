@@ -1,4 +1,5 @@
 // What C and Rust link: the calls of crates/slipwattle under their names, each with the clauses that it has there.
+// Stays: each call once more, its parameters one by one, a number with values beside it; C links and reads these.
 #![tactic(auto)]
 
 ghost use Rattle.std.specs.Prelude.{◌≡◌, [], ◌∷◌};

@@ -17,6 +17,7 @@ use rules::{Bridge, BridgeRow, Table};
 const SHPC: u32 = 0x02;
 
 // The control bits that an edition knows.
+// Stays beside osc's: the edit `bit_10_permitted` is of this one, `bit_5_known` and `bit_10_known` are of that.
 #[tactic(auto, unfolding(rules::specs::Editions::known_control, rules::specs::Editions::control_bits))]
 fn known_control(edition: Edition) -> u32
     ensures { result ≡ known_control (edition_number edition) }
@@ -109,7 +110,7 @@ pub fn no_bridges() -> [Bridge; rules::MAX_ROWS]
 }
 
 // Start's number, and how many bridges its table has: those of the rows judged, none where start is refused.
-// Stays: a number with a value beside it, since C reads both in `Started`.
+// Stays a number with a count, since C reads both, and beside slipwattle's `crossing`: the edits `done_when_refused`, `refusal_dropped` and `whole_array_counted` are of it.
 pub fn settle(judged: Result<usize, Refusal>) -> (u8, usize)
     ensures { (result.0 ≡ number judged) × (result.1 ≡ given 0 judged) }
 {

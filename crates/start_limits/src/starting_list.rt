@@ -63,21 +63,21 @@ fn one(rt: &impl Print, owner: u8, kind: u8, edition: u8, permitted: u32) -> io:
     )
 }
 
-// Express rows for buses 16 and 17 of segment 0: their editions, their permitted bits.
-fn two_rows(rt: &impl Print, editions: [u8; 2], permitted: [u32; 2]) -> io::Result<()> {
-    let first = BridgeRow {
-        edition: editions[0],
-        ..fixtures::row(1, 16, 16, permitted[0])
+// Express rows for buses 16 and 17 of segment 0, each by its edition and its permitted bits.
+fn two_rows(rt: &impl Print, first: (u8, u32), second: (u8, u32)) -> io::Result<()> {
+    let row = BridgeRow {
+        edition: first.0,
+        ..fixtures::row(1, 16, 16, first.1)
     };
-    let mut rows = [first; LIST_ROWS];
+    let mut rows = [row; LIST_ROWS];
     rows[1] = BridgeRow {
-        edition: editions[1],
-        ..fixtures::row(2, 17, 17, permitted[1])
+        edition: second.0,
+        ..fixtures::row(2, 17, 17, second.1)
     };
     let (number, t) = start(rows, 2);
     print!(rt;
         "two rows {} {} {:#x} {:#x}",
-        editions[0], editions[1], permitted[0], permitted[1]
+        first.0, second.0, first.1, second.1
     )?;
     println!(rt; ": {number}, bridges {}", t.table.count)
 }
@@ -225,12 +225,12 @@ fn conventional(rt: &impl Print) -> io::Result<()> {
 // Rows of both editions.
 fn mixed(rt: &impl Print) -> io::Result<()> {
     println!(rt; "(two rows: their editions, their permitted bits)")?;
-    two_rows(rt, [V3_3, V3_0], [0x3ff, 0x1f])?;
-    two_rows(rt, [V3_3, V3_0], [0x3ff, 0x20])?;
-    two_rows(rt, [V3_0, V3_3], [0x1f, 0x3ff])?;
-    two_rows(rt, [V3_0, V3_3], [0x20, 0x3ff])?;
-    two_rows(rt, [V3_0, V3_3], [0x1f, 0x400])?;
-    two_rows(rt, [V3_3, 2], [0x3ff, 0])?;
+    two_rows(rt, (V3_3, 0x3ff), (V3_0, 0x1f))?;
+    two_rows(rt, (V3_3, 0x3ff), (V3_0, 0x20))?;
+    two_rows(rt, (V3_0, 0x1f), (V3_3, 0x3ff))?;
+    two_rows(rt, (V3_0, 0x20), (V3_3, 0x3ff))?;
+    two_rows(rt, (V3_0, 0x1f), (V3_3, 0x400))?;
+    two_rows(rt, (V3_3, 0x3ff), (2, 0))?;
     Ok(())
 }
 

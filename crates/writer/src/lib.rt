@@ -19,7 +19,8 @@ struct Present {
     express: Option<ExpressSetting>,
 }
 
-// A record that is present, as any flag but 0 says. With `then_some`, or `None` in a branch of its own, the writer takes 5 to 9 instructions more.
+// A record that is present, as any flag but 0 says.
+// Stays: with `then_some`, or `None` in a branch of its own, the writer takes 5 to 9 instructions more.
 fn if_flag<S: Copy>(flag: u8, r: S) -> Option<S>
     ensures { result ≡ cond (eqb flag 0) None (Some r) }
 {
