@@ -1,7 +1,11 @@
-// What the programs' lines are made of, beside what the library prints: bytes in fours, lists of numbers.
+// What the programs print to, and what their lines are made of beside what the library prints: bytes in fours, lists of numbers.
 #![tactic(auto)]
 
 use std::fmt;
+
+mod stdout;
+
+pub use stdout::Output;
 
 // Bytes as stored, in fours, each with a space before them.
 #[derive(Clone, Copy)]
