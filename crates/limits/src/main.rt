@@ -3,14 +3,12 @@
 // Stays: the lines are calls with numbers; of an array of sixteen cases in a for the check did not find what each case requires, and the lines that require nothing are no plainer apart from the rest.
 #![tactic(auto)]
 
-use std::io;
-
-fn main(rt: HostRuntime) -> io::Result<()> {
-    start_limits::lines(&rt)?;
-    place_limits::lines(&rt)?;
-    osc_limits::lines(&rt)?;
-    edition_limits::lines(&rt)?;
-    record_limits::lines(&rt)?;
-    rom_limits::lines(&rt)?;
-    writer_limits::lines(&rt)
+fn main() {
+    start_limits::lines();
+    place_limits::lines();
+    osc_limits::lines();
+    edition_limits::lines();
+    record_limits::lines();
+    rom_limits::lines();
+    writer_limits::lines();
 }

@@ -2,6 +2,7 @@
 #![tactic(auto)]
 
 use fixtures::SoundTable;
+use print::Output;
 use rules::{BridgeNumber, Holding, SessionNumber};
 use std::io;
 
@@ -14,7 +15,12 @@ fn held(t: &SoundTable) -> Holding {
         .unwrap_or_default()
 }
 
-pub fn lines(rt: &impl Print) -> io::Result<()> {
+fn lines_to(rt: &impl Print) -> io::Result<()> {
     framing::lines(rt)?;
     granting::lines(rt)
+}
+
+// Output gives no error.
+pub fn lines() {
+    let _ = lines_to(&Output);
 }

@@ -4,6 +4,7 @@
 ghost use Rattle.std.specs.Prelude.{◌<◌, ◌≤◌};
 
 use fixtures::ROM_ROOM;
+use print::Output;
 use std::io;
 
 // The end of a line: the number, and where the image lies in a ROM.
@@ -175,7 +176,7 @@ fn pointers(rt: &impl Print) -> io::Result<()> {
     Ok(())
 }
 
-pub fn lines(rt: &impl Print) -> io::Result<()> {
+fn lines_to(rt: &impl Print) -> io::Result<()> {
     println!(rt; "Images of an expansion ROM")?;
     matches(rt)?;
     bytes(rt)?;
@@ -184,4 +185,9 @@ pub fn lines(rt: &impl Print) -> io::Result<()> {
     ends(rt)?;
     pointers(rt)?;
     Ok(())
+}
+
+// Output gives no error.
+pub fn lines() {
+    let _ = lines_to(&Output);
 }
