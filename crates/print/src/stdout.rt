@@ -5,9 +5,9 @@ use std::fmt::{self, Display, Write};
 
 const STDOUT: i32 = 1;
 
-const ROOM: usize = 256;
+const ROOM: usize = 128;
 
-// What is printed and not yet written: the first bytes, so many.
+// What is printed and not yet written: the first `length` bytes.
 #[derive(Drop)]
 struct Buffer {
     bytes: [u8; ROOM],
@@ -42,6 +42,15 @@ impl Buffer {
         io::write_all(STDOUT, &self.bytes[..self.length.min(ROOM)]);
         self.length = 0;
     }
+
+    // For a text that has no room; one longer than the buffer is written as it is. Apart, so that a text with room costs less.
+    #[inline(never)]
+    fn flush_before(&mut self, text: &[u8]) {
+        self.flush();
+        if !self.keep(text) {
+            io::write_all(STDOUT, text);
+        }
+    }
 }
 
 impl fmt::Write for Buffer {
@@ -50,10 +59,7 @@ impl fmt::Write for Buffer {
     {
         let text = s.as_bytes();
         if !self.keep(text) {
-            self.flush();
-            if !self.keep(text) {
-                io::write_all(STDOUT, text);
-            }
+            self.flush_before(text);
         }
         Ok(())
     }
