@@ -1,6 +1,6 @@
 -- Start row by row: the first i rows of a list are sound, apart and stored; one more row; the whole list.
 -- Assumes nothing.
-use Rattle.std.proofs.Common.{◌≡◌, ℕ, ◌+◌, ◌≤◌, ◌<◌, Bool, true, false, ◌&&◌, List, [], ◌∷◌, ◌++◌, map, length, take, get_or, set, sym, ◌∙◌, add-one, arith}
+use Rattle.std.proofs.Common.{◌≡◌, ℕ, ◌+◌, ◌≤◌, ◌<◌, Bool, true, false, ◌&&◌, List, [], ◌∷◌, ◌++◌, map, length, take, get_or, set, sym, refl, ◌∙◌, add-one, arith}
 use Rattle.std.proofs.lemmas.List.{take_all, length-take-le, map-append}
 use Rattle.std.proofs.Math.Seq.{take-suc}
 use Rattle.std.proofs.Math.ListN.{length-map}
@@ -42,12 +42,16 @@ module _ (es : List Entry) where
         let n = length-map rows (bridge_of es) in
         rw (map-append, ← n) (sym (padded_snoc unused max_rows (map (bridge_of es) rows) (bridge_of es r) (rw n room)))
 
-  -- the first i rows of a list are sound and apart; in the array, which had no bridges before, their bridges are stored
-  pub record Listed (rows : List BridgeRow) (i : ℕ) (before l : List Bridge) : Type 0 where
-    pub stored : before ≡ array_of [] → l ≡ array_of (take i rows)
+  -- the first i rows of a list are sound, apart and stored
+  pub record Listed (rows : List BridgeRow) (i : ℕ) (l : List Bridge) : Type 0 where
+    pub upto : i ≤ length rows
+    pub stored : l ≡ array_of (take i rows)
     pub good : rows_good (take i rows) ≡ true
 
-  module _ (rows : List BridgeRow) (i : ℕ) (before l : List Bridge) (d : BridgeRow) (listed : Listed rows i before l) (left : i < length rows) where
+  pub listed_none : (rows : List BridgeRow) → Listed rows 0 (padded unused max_rows [])
+  listed_none rows = record { upto = omega arith; stored = refl; good = refl }
+
+  module _ (rows : List BridgeRow) (i : ℕ) (l : List Bridge) (d : BridgeRow) (listed : Listed rows i l) (left : i < length rows) where
     abbrev here : BridgeRow
     here = get_or rows i d
 
@@ -59,17 +63,17 @@ module _ (es : List Entry) where
     more = rw (next, one_more (take i rows) here, listed.good)
 
     -- the row is admitted
-    pub listed_more : length rows ≤ max_rows → admissible (take i rows) here ≡ true → Listed rows (i + 1) before (set l i (bridge_of es here))
-    listed_more few a = record { stored = put; good = more ∙ a }
+    pub listed_more : length rows ≤ max_rows → admissible (take i rows) here ≡ true → Listed rows (i + 1) (set l i (bridge_of es here))
+    listed_more few a = record { upto = omega arith; stored = put; good = more ∙ a }
       where
         front : length (take i rows) ≡ i
-        front = length-take-le i rows (omega arith)
+        front = length-take-le i rows listed.upto
 
         room : length (take i rows) < max_rows
         room = rw front (omega arith)
 
-        put : before ≡ array_of [] → set l i (bridge_of es here) ≡ array_of (take (i + 1) rows)
-        put none = rw (next, listed.stored none) (rw front at (stored_more (take i rows) here room))
+        put : set l i (bridge_of es here) ≡ array_of (take (i + 1) rows)
+        put = rw (next, listed.stored) (rw front at (stored_more (take i rows) here room))
 
     -- it is not: the whole list breaks a rule
     pub listed_stop : admissible (take i rows) here ≡ false → rows_sound es rows ≡ false
@@ -83,10 +87,9 @@ module _ (es : List Entry) where
             true≢false (sym (and_is (every_take (row_sound es) rows (i + 1) sound) (pairwise_take rows_apart rows (i + 1) apart)) ∙ more ∙ a)
 
   -- all rows are listed
-  pub listed_all : (rows : List BridgeRow) (i : ℕ) (before l : List Bridge) → Listed rows i before l → length rows ≤ i → length rows ≤ max_rows
-      → (rows_sound es rows ≡ true) × (before ≡ array_of [] → l ≡ array_of rows)
+  pub listed_all : (rows : List BridgeRow) (i : ℕ) (l : List Bridge) → Listed rows i l → length rows ≤ i → length rows ≤ max_rows → (rows_sound es rows ≡ true) × (l ≡ array_of rows)
   unfolding rows_sound
-  listed_all rows i before l listed past few =
+  listed_all rows i l listed past few =
       let w = take_all i rows past in
       let g : rows_good rows ≡ true = rw w at listed.good in (
         and_is

@@ -4,7 +4,7 @@ use Rattle.std.proofs.Common.{◌≡◌, ℕ, ◌+◌, ◌≤◌, ◌<◌, Bool,
 use Rattle.std.specs.Prelude.{leb}
 use Rattle.std.specs.List.{list_all}
 use Rattle.std.proofs.Math.ListN.{length-map}
-use borrow.Author.Tests.{leb-false}
+use borrow.Author.Tests.{leb-true, leb-false}
 use Rattle.rules.specs.Limits.{max_rows}
 use Rattle.rules.specs.Lists.{every}
 use Rattle.rules.specs.Mcfg.{entries, mcfg_sound}
@@ -19,7 +19,7 @@ use Rattle.codes.specs.declared.Refusal.{Refusal}
 use Rattle.codes.specs.declared.Refusal.TheVariants.{Mcfg, Rows}
 use Rattle.start.specs.Admission.{admitted, first_refusal, no_bridges, Judges}
 use Rattle.start.proofs.Listing.{every_is}
-use Rattle.start.proofs.Admission.{admissible, Listed, listed_more, listed_stop, listed_all, too_many}
+use Rattle.start.proofs.Admission.{admissible, Listed, listed_none, listed_more, listed_stop, listed_all, too_many}
 
 module _ (x : StartInput) where
   abbrev es : List Entry
@@ -50,7 +50,16 @@ module _ (x : StartInput) where
   pub record Reached (i : ℕ) (l : List Bridge) : Type 0 where
     pub sound : mcfg_sound x.mcfg ≡ true
     pub few : length x.rows ≤ max_rows
-    pub listed : Listed es x.rows i no_bridges l
+    pub listed : Listed es x.rows i l
+
+  -- before the first row: the array is cleared
+  pub reached_none : (l : List Bridge) → Ok (tt {0}) ≡ first_refusal x.mcfg (length x.rows) → l ≡ no_bridges → Reached 0 l
+  reached_none l e is = go (mcfg_sound x.mcfg) (leb (length x.rows) max_rows) refl refl e
+    where
+      go : (a b : Bool) → mcfg_sound x.mcfg ≡ a → leb (length x.rows) max_rows ≡ b → Ok (tt {0}) ≡ cond a (cond b (Ok (tt {0})) (Err Rows)) (Err Mcfg) → Reached 0 l
+      go true true p q e = record { sound = p; few = leb-true (length x.rows) max_rows q; listed = rw is (listed_none es x.rows) }
+      go true false p q e = cc
+      go false b p q e = cc
 
   -- what is refused before the first row
   pub first_refused : (r : Refusal) → Err r ≡ first_refusal x.mcfg (length x.rows) → Judges x (Err r) no_bridges
@@ -79,7 +88,7 @@ module _ (x : StartInput) where
         where
           go : (t : Bool) → admissible es (take i x.rows) row ≡ t → Ok b ≡ cond t (Ok (bridge_of es row)) (Err Rows) → Reached (i + 1) (set l i b)
           go true ok e = let is : b ≡ bridge_of es row = cc in
-              rw is (record { sound = reached.sound; few = reached.few; listed = listed_more es x.rows i no_bridges l no_row reached.listed left reached.few ok })
+              rw is (record { sound = reached.sound; few = reached.few; listed = listed_more es x.rows i l no_row reached.listed left reached.few ok })
           go false broken e = cc
 
       pub row_refused : (r : Refusal) → Err r ≡ admitted es row apart → Judges x (Err r) no_bridges
@@ -89,11 +98,11 @@ module _ (x : StartInput) where
           go true ok e = cc
           go false broken e =
               let is : r ≡ Rows = cc in
-              rw is (refusal Rows (rows_refused reached.sound (listed_stop es x.rows i no_bridges l no_row reached.listed left broken)))
+              rw is (refusal Rows (rows_refused reached.sound (listed_stop es x.rows i l no_row reached.listed left broken)))
 
     -- the walk has ended
     pub answered : length x.rows ≤ i → Judges x (Ok (length x.rows)) l
     answered past =
-        let listed = listed_all es x.rows i no_bridges l reached.listed past reached.few in
+        let listed = listed_all es x.rows i l reached.listed past reached.few in
         let all = all_admitted reached.sound listed.0 in
-        (all.0, listed.1 refl ∙ ap (λ (t : Table). t.bridges) all.1, sym (length-map x.rows (bridge_of es)) ∙ ap (λ (t : Table). t.count) all.1)
+        (all.0, listed.1 ∙ ap (λ (t : Table). t.bridges) all.1, sym (length-map x.rows (bridge_of es)) ∙ ap (λ (t : Table). t.count) all.1)
