@@ -1,6 +1,6 @@
--- The search over the bridges of a table, turn by turn, which the loops over `seek` cite.
+-- The search over the bridges of a table, turn by turn; `read_back_is` of Found goes by it.
 --     Seeking          the search, gone on with, gives what `locate` gives
---     seek_first, seek_on, seek_end      it holds before the loop and after a turn, and where no bridge is next the search has the answer
+--     seek_first, seek_on, seek_end      it holds before the first turn and after a turn, and where no bridge is next the search has the answer
 --     seek_near        a turn comes nearer to the end
 use Prim.Native.Nat.{ℕ, suc, ◌-◌, ◌≤◌, ◌<◌, zero-le}
 use mathlib.Core.Path.{◌≡◌, refl, sym, ap, ◌∙◌}
