@@ -68,7 +68,7 @@ pub in_order : (e : Entry) → entry_sound e ≡ true → e.start_bus ≤ e.end_
 in_order e h = leb-true e.start_bus e.end_bus (search (and_l, and_r))
 
 -- its window ends at 2^64 at most
-window_end : (e : Entry) → entry_sound e ≡ true → bus_end e.base e.end_bus ≤ 2 ^ 64
+pub window_end : (e : Entry) → entry_sound e ≡ true → bus_end e.base e.end_bus ≤ 2 ^ 64
 window_end e h = leb-true (bus_end e.base e.end_bus) (2 ^ 64) (search (and_l, and_r))
 
 -- so that 64 bits hold its first and its last byte

@@ -94,7 +94,7 @@ pub extern "C" fn slipwattle_address(
     slipwattle::slipwattle_address(t, s, n, bus, device, function, offset, width)
 }
 
-// The bridges are searched where they stand; locate::seek looks at one.
+// The bridges are searched where they stand.
 #[unsafe(no_mangle)]
 pub extern "C" fn slipwattle_locate(t: &mut Table, s: SessionNumber, address: u64) -> Located
     requires { Sound t.old }

@@ -34,7 +34,7 @@ added (x ∷ l) [] e = cc
 added (x ∷ l) (y ∷ b) e = omega (arith, added l b (omega arith))
 
 -- a string's sum is that of its first bytes and that of the others
-sum_split : (b : List ℕ) (i : ℕ) → sum (take i b) + sum (drop i b) ≡ sum b
+pub sum_split : (b : List ℕ) (i : ℕ) → sum (take i b) + sum (drop i b) ≡ sum b
 sum_split b zero = omega arith
 sum_split [] (suc i) = refl
 sum_split (x ∷ b) (suc i) = omega (arith, sum_split b i)
