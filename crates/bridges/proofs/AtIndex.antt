@@ -1,6 +1,5 @@
 -- A call on the bridge at a bridge number's index of the array is the call on the table: the remainder finds the bridge that the table has, and another number is refused.
 use Prim.Native.Nat.{ℕ, zero, suc, ◌%◌, ◌^◌, ◌≤◌, ◌<◌}
-use mathlib.Core.List.{List}
 use mathlib.Core.Path.{◌≡◌, refl, sym, ap, subst, ◌∙◌}
 use native.Mathlib.Decide.{dec_lt}
 use native.Mathlib.Nat.{mod-eq_of_lt}
@@ -10,19 +9,15 @@ use Rattle.rules.specs.Limits.{max_rows}
 use Rattle.rules.specs.Tables.{holding, with_holding, bridge_at, with_bridge}
 use Rattle.rules.specs.Mcfg.{bus_end}
 use Rattle.rules.specs.Start.{Sound, BridgeSound}
-use Rattle.rules.specs.Calls.{Operation, Outcome, outcome, nothing, on, after, number_at, outcome_by, bridge_by, outcome_at, bridge_after, step}
+use Rattle.rules.specs.Calls.{Operation, Outcome, on, after, number_at, outcome_by, bridge_by, outcome_at, bridge_after, step}
 use Rattle.rules.specs.declared.Bridge.{Bridge}
 use Rattle.rules.specs.declared.BridgeNumber.{BridgeNumber}
 use Rattle.rules.specs.declared.SessionNumber.{SessionNumber}
 use Rattle.rules.specs.declared.Table.{Table}
 use Rattle.rules.proofs.Local.{absent_first, same_bridge}
-use Rattle.std.specs.Prelude.{Result}
-use Rattle.codes.specs.Numbers.{number}
-use Rattle.codes.specs.declared.Refusal.{Refusal}
-use Rattle.rules.specs.declared.Holding.{Holding}
-use Rattle.one_bridge.specs.Answers.{outcome_of, after as bridge_left, keeping}
+use Rattle.one_bridge.specs.Answers.{outcome_of}
 use Rattle.one_bridge.specs.declared.BridgeCall.{BridgeCall}
-use Rattle.bridges.specs.OnTable.{Steps, call_on, storing}
+use Rattle.bridges.specs.OnTable.{Steps, call_on}
 
 -- a call changes nothing of a bridge but what it holds
 bridge_held : (k : ℕ) (b : Bridge) (o : Operation) → with_holding b (holding (bridge_by k b o)) ≡ bridge_by k b o
@@ -87,11 +82,3 @@ module _ (t : Table) (sound : Sound t) (s : SessionNumber) (n : BridgeNumber) (o
   -- an operation that leaves what the bridge holds
   pub as_read : {x : Outcome} → ((b : Bridge) → after b o ≡ holding b) → x ≡ outcome_of q o → Steps t (on s n o) x t
   as_read keeps e = (found e, table_kept t max_rows sound.few s n o keeps)
-
-  -- one of which what it gave, or nothing where it is refused, is stored
-  pub as_stored : {k : ℕ} {l : List (List ℕ)} {u : Table} (r : Result Holding Refusal) → k ≡ number r → u ≡ storing t n r
-      → (outcome (number r) nothing l ≡ outcome_of q o) × (keeping q.bridge r ≡ bridge_left q o) → Steps t (on s n o) (outcome k nothing l) u
-  as_stored {l = l} r same stored e = (
-    ap (λ (j : ℕ). outcome j nothing l) same ∙ found e.0,
-    stored ∙ ap (with_bridge t (n.0 % max_rows)) (subst (λ (c : BridgeCall). keeping c.bridge r ≡ bridge_left c o) made e.1) ∙ index_table t max_rows sound.few s n o,
-  )
