@@ -11,6 +11,7 @@ ghost use Rattle.hpx.specs.Answers.{values_at};
 
 use codes::Refusal;
 use parts::Part;
+use rules::Found;
 
 // If the slot's block is not empty it alone decides.
 // Stays: two slices, slot and block, as slipwattle_find_record and its clauses name them; a struct of the two would be made for one call and taken apart in it.
@@ -28,8 +29,18 @@ pub fn search<'a>(slot: &'a [u8], block: &'a [u8], record_type: u32) -> Result<P
     records::search_block(deciding(slot, block), record_type)
 }
 
-// The record search, in one pass over the block: the record, where it lies.
-pub fn find_record<'a>(
+// The record search, in one pass over the block: the record as a part of the deciding block, or beside a refusal the empty part, where that block begins.
+pub fn find_record<'a>(slot: &'a [u8], block: &'a [u8], record_type: u32) -> Found<'a>
+    ensures { (result.number ≡ (find_record slot.now block.now record_type).number)
+        × (result.part.now ≡ part (find_record slot.now block.now record_type) (deciding slot.now block.now))
+        × (result.part.ref_ptr ≡ part_at (find_record slot.now block.now record_type)
+        (deciding_at slot.now slot.entry.ref_ptr block.entry.ref_ptr)) }
+{
+    parts::found(deciding(slot, block), search(slot, block, record_type))
+}
+
+// The record itself, as a part of the deciding block; nothing of it where the search is refused.
+pub fn try_find_record<'a>(
     slot: &'a [u8],
     block: &'a [u8],
     record_type: u32,
@@ -70,7 +81,7 @@ fn sizes_kept(current: u32, computed: u32) -> u32
 }
 
 // The bytes of a type 2 record, header included.
-const SETTINGS: usize = 71;
+pub const SETTINGS: usize = 71;
 
 // The new value of register k by its AND/OR pair in the type 2 record. Device Control and Link Control are 4 and 5.
 fn register(setting: &[u8; SETTINGS], k: usize, current: u32, aer: bool) -> u32
@@ -89,8 +100,8 @@ fn register(setting: &[u8; SETTINGS], k: usize, current: u32, aer: bool) -> u32
     computed
 }
 
-// The eight new values by the type 2 record.
-fn new_values(setting: &[u8; SETTINGS], current: &[u32; 8], aer: bool) -> [u32; 8]
+// The eight new values by the bytes of a type 2 record, header included, sound or not.
+pub fn new_values(setting: &[u8; SETTINGS], current: &[u32; 8], aer: bool) -> [u32; 8]
     ensures { result ≡ new_values aer setting.now (field_at setting.now 0) 0 current.now }
 {
     std::array::from_fn(|k| register(setting, k, current[k], aer))
@@ -108,6 +119,6 @@ pub fn register_values<'a>(
         (deciding slot.now block.now) current.now
         (record_in (deciding slot.now block.now) 2) }
 {
-    let setting = find_record(slot, block, 2)?;
+    let setting = try_find_record(slot, block, 2)?;
     Ok(new_values(setting.first_chunk().unwrap(), current, aer))
 }

@@ -1,12 +1,12 @@
-// What a search of lent bytes gives: a part of them, or a refusal.
+// What a search of lent bytes gives: a part of them, or a refusal; and the same as a struct, with the empty part beside a refusal's number.
 #![tactic(auto)]
 
 ghost use Rattle.std.specs.Prelude.{◌≡◌, ◌+◌, ◌≤◌, length};
-ghost use Rattle.rules.specs.Parts.{part, part_at};
+ghost use Rattle.rules.specs.Parts.{refused, part, part_at};
 ghost use Rattle.parts.specs.Found.{placed, found_at};
 
 use codes::Refusal;
-use rules::FoundAt;
+use rules::{Found, FoundAt};
 
 // Where a part lies: its first byte, and its length, header included.
 #[derive(Clone, Copy, Debug, PartialEq, Eq)]
@@ -25,6 +25,17 @@ pub fn cut<'a>(b: &'a [u8], at: Part) -> &'a [u8]
     &b[start..end]
 }
 
+// What is handed back beside a refusal number.
+pub fn refusal(number: u8) -> FoundAt
+    ensures { result ≡ refused number }
+{
+    FoundAt {
+        number,
+        start: 0,
+        size: 0,
+    }
+}
+
 // As it crosses to C: the empty part beside the number of a refusal.
 // Stays: a function, since a From between FoundAt and Result, both of other crates, may not be written here.
 pub fn found_at(found: Result<Part, Refusal>) -> FoundAt
@@ -36,10 +47,24 @@ pub fn found_at(found: Result<Part, Refusal>) -> FoundAt
             start,
             size,
         },
-        Err(refusal) => FoundAt {
-            number: u8::from(refusal),
-            start: 0,
-            size: 0,
-        },
+        Err(r) => refusal(u8::from(r)),
+    }
+}
+
+// With the part itself: that of the bytes which was found, or beside a refusal the empty one, where the bytes begin.
+pub fn found<'a>(b: &'a [u8], at: Result<Part, Refusal>) -> Found<'a>
+    requires { (found_at at).start + (found_at at).size ≤ length b.now }
+    ensures { (result.number ≡ (found_at at).number)
+        × (result.part.now ≡ part (found_at at) b.now)
+        × (result.part.ref_ptr ≡ part_at (found_at at) b.entry.ref_ptr) }
+{
+    let FoundAt {
+        number,
+        start,
+        size,
+    } = found_at(at);
+    Found {
+        number,
+        part: cut(b, Part { start, size }),
     }
 }

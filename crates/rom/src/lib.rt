@@ -11,7 +11,7 @@ ghost use Rattle.rom.specs.Images.{image_read, chain_sound, chosen_if};
 
 use codes::Refusal;
 use parts::Part;
-use rules::Image;
+use rules::{Found, Image};
 use rules::constants::MAX_ROM;
 
 // 0x55 0xAA as a number, and the letters of a structure.
@@ -141,8 +141,17 @@ pub fn search<'a>(rom: &'a [u8], vendor: u32, device: u32, code_type: u32) -> Re
     Err(Refusal::Rom)
 }
 
-// The image search, with the image as a part of the ROM.
-pub fn find_image<'a>(
+// The image search: the image as a part of the ROM, or beside a refusal the empty part, where the ROM begins.
+pub fn find_image<'a>(rom: &'a [u8], vendor: u32, device: u32, code_type: u32) -> Found<'a>
+    ensures { (result.number ≡ (find_image rom.now vendor device code_type).number)
+        × (result.part.now ≡ part (find_image rom.now vendor device code_type) rom.now)
+        × (result.part.ref_ptr ≡ part_at (find_image rom.now vendor device code_type) rom.entry.ref_ptr) }
+{
+    parts::found(rom, search(rom, vendor, device, code_type))
+}
+
+// The image itself, as a part of the ROM; nothing of it where the search is refused.
+pub fn try_find_image<'a>(
     rom: &'a [u8],
     vendor: u32,
     device: u32,

@@ -9,7 +9,7 @@ fn search(rt: &impl Print, block: &[u8], record_type: u32) -> io::Result<()> {
     let outcome = hpx::search(b"", block, record_type);
     let start = outcome.map_or(0, |part| part.start);
     let size = outcome.map_or(0, |part| part.size);
-    let record = hpx::find_record(b"", block, record_type).unwrap_or(b"");
+    let record = hpx::find_record(b"", block, record_type).part;
     println!(rt;
         ": {}, part {start} {size}{}",
         codes::number(outcome),

@@ -1,5 +1,5 @@
-use Rattle.hpx.proofs.Searches.{inside}
+use Rattle.hpx.proofs.Searches.{found_fits}
 use Rattle.hpx.proofs.find_record.Goals as goal
 
-pub cut-requires : goal.cut-requires
-cut-requires c = rw c.deciding.ensures.0 (inside c.args.slot.now c.args.block.now c.args.record_type c.in_ok-at.at c.in_ok-at.ensures)
+pub found-requires : goal.found-requires
+found-requires c = rw (c.search.ensures, c.deciding.ensures.0) (found_fits c.args.slot.now c.args.block.now c.args.record_type)
