@@ -161,6 +161,10 @@ module _ (l : List ℕ) (type : ℕ) (rest : List ℕ) (s : List Bool) (found : 
   long : length rest ≡ length l - w.at
   long = ap length w.is ∙ length-drop w.at l
 
+  -- it is no longer than the block
+  pub within : length rest ≤ length l
+  within = omega (arith, long)
+
   pub walked : true ≡ (length rest == 0) → kept found ≡ find_record [] l type
   walked h = at_end l type w.at s found w.left (omega (arith, long, none_left (length rest) h))
 
@@ -218,3 +222,7 @@ module _ (l : List ℕ) (type : ℕ) (rest : List ℕ) (s : List Bool) (found : 
 
         pub passes_by : (t.tag ≡ type → ⊥) → Walk l type after (set s t.tag true) found
         passes_by n = goes_on found (sym (left_alone type (field_at l w.at) found (λ q. n (tag_is l w.at t after split ∙ q))))
+
+-- what is left behind a field is shorter
+pub shorter : (rest after : List ℕ) (t : Tagged) → IsSplit rest t after → length after < length rest
+shorter rest after t e = omega (arith, ap length e.3 ∙ length-drop (3 + (field_at rest 0).size) rest, e.0)

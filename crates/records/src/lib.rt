@@ -98,7 +98,9 @@ pub fn search_block(b: &[u8], record_type: u32) -> Result<Part, Refusal>
     let mut seen = [false; 3];
     let mut found = None;
     while !rest.is_empty() {
-        let (field, after) = split_field(rest).ok_or(Refusal::RecordBlock)?;
+        let Some((field, after)) = split_field(rest) else {
+            return Err(Refusal::RecordBlock);
+        };
         if field.is_record()? {
             if seen[field.tag as usize] {
                 return Err(Refusal::RecordBlock);
