@@ -11,8 +11,8 @@ ghost use Rattle.rom.specs.Images.{image_read, chain_sound, chosen_if};
 
 use codes::Refusal;
 use parts::Part;
-use rules::{Found, Image};
 use rules::constants::MAX_ROM;
+use rules::{Found, Image};
 
 // 0x55 0xAA as a number, and the letters of a structure.
 const SIGNATURE: u16 = 0xaa55;
