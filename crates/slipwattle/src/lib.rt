@@ -89,13 +89,19 @@ pub fn slipwattle_reset(t: &mut Table, s: SessionNumber, n: BridgeNumber) -> u8
     codes::number(bridges::reset(t, s, n))
 }
 
+// Each answer by itself: by `crossing` the compiler stores the answer in pieces and loads it across them, and a report takes three times as long.
 pub fn slipwattle_report(t: &mut Table, s: SessionNumber, n: BridgeNumber) -> Reported
     requires { Sound t.old }
     ensures { (outcome result.number (reported result.holding) [] ≡ (step t.old (on s n report)).outcome)
         × (t.new ≡ (step t.old (on s n report)).table) }
 {
-    let (number, holding) = crossing(bridges::report(t, s, n), Holding::default());
-    Reported { number, holding }
+    match bridges::report(t, s, n) {
+        Ok(holding) => Reported { number: 0, holding },
+        Err(refusal) => Reported {
+            number: u8::from(refusal),
+            holding: Holding::default(),
+        },
+    }
 }
 
 // The numbers of a place are u32, so that device 256 is refused and not taken for device 0.
