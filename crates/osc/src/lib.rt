@@ -94,7 +94,7 @@ struct Capabilities {
 }
 
 // The control bits that an edition knows.
-// Stays beside start's: the edits `bit_5_known` and `bit_10_known` are of this one, `bit_10_permitted` is of that.
+// Stays beside start's: the edits `bit_5_let_in` and `bit_10_let_in` are of this one, `bit_10_permitted` is of that.
 #[tactic(auto, unfolding(rules::specs::Editions::known_control, rules::specs::Editions::control_bits))]
 fn known_control(edition: Edition) -> u32
     ensures { result ≡ known_control (edition_number edition) }

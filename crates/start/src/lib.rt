@@ -17,7 +17,7 @@ use rules::{Bridge, BridgeRow, Table};
 const SHPC: u32 = 0x02;
 
 // The control bits that an edition knows.
-// Stays beside osc's: the edit `bit_10_permitted` is of this one, `bit_5_known` and `bit_10_known` are of that.
+// Stays beside osc's: the edit `bit_10_permitted` is of this one, `bit_5_let_in` and `bit_10_let_in` are of that.
 #[tactic(auto, unfolding(rules::specs::Editions::known_control, rules::specs::Editions::control_bits))]
 fn known_control(edition: Edition) -> u32
     ensures { result ≡ known_control (edition_number edition) }
