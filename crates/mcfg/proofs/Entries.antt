@@ -1,14 +1,14 @@
 -- The entries of a table, record by record, and the window of a sound entry.
 -- Assumes nothing.
-use Rattle.std.proofs.Common.{◌≡◌, ℕ, zero, suc, ◌+◌, ◌-◌, ◌/◌, ◌^◌, ◌≤◌, ◌<◌, true, List, ◌∷◌, map, length, get_or, take, drop, leb, ltb, refl, sym, ap, ap₂, ◌∙◌, arith, drop-drop, length-drop}
+use Rattle.std.proofs.Common.{◌≡◌, ℕ, zero, suc, ◌+◌, ◌-◌, ◌*◌, ◌/◌, ◌%◌, ◌^◌, ◌≤◌, ◌<◌, true, List, ◌∷◌, map, length, get_or, take, drop, leb, ltb, refl, sym, ap, ap₂, ◌∙◌, arith, drop-drop, length-drop}
 use Rattle.std.specs.Simd.{first_chunks}
 use Rattle.std.proofs.lemmas.List.{get_or-take, get_or-drop}
-use borrow.Author.Tests.{leb-true, le-leb, ltb-true, lt-ltb}
+use borrow.Author.Tests.{eqb-true, leb-true, le-leb, ltb-true, lt-ltb}
 use Rattle.rules.specs.Numbers.{word, qword}
 use Rattle.rules.specs.Mcfg.{entries, entry_at, entries_from, bus_start, bus_end, entry_sound}
 use Rattle.rules.specs.declared.Entry.{Entry}
 use Rattle.rules.proofs.Tests.{and_l, and_r, same_test}
-use Rattle.mcfg.specs.Rest.{entry_in, first_byte, last_byte}
+use Rattle.mcfg.specs.Rest.{entry_in, first_mib, last_mib}
 
 -- the record of 16 bytes at a byte holds the entry there
 module _ (m : List ℕ) (i : ℕ) where
@@ -71,15 +71,19 @@ in_order e h = leb-true e.start_bus e.end_bus (search (and_l, and_r))
 pub window_end : (e : Entry) → entry_sound e ≡ true → bus_end e.base e.end_bus ≤ 2 ^ 64
 window_end e h = leb-true (bus_end e.base e.end_bus) (2 ^ 64) (search (and_l, and_r))
 
--- so that 64 bits hold its first and its last byte
-pub windows_fit : (e f : Entry) → entry_sound e ≡ true → entry_sound f ≡ true
-    → ltb (last_byte e) (first_byte f) ≡ leb (bus_end e.base e.end_bus) (bus_start f.base f.start_bus)
-windows_fit e f s t = same_test _ _
-    (λ h. let k = ltb-true (last_byte e) (first_byte f) h in le-leb (bus_end e.base e.end_bus) (bus_start f.base f.start_bus) (omega (arith, last, first)))
-    (λ h. let k = leb-true (bus_end e.base e.end_bus) (bus_start f.base f.start_bus) h in lt-ltb (last_byte e) (first_byte f) (omega (arith, last, first)))
-  where
-    last : last_byte e + 1 ≡ bus_end e.base e.end_bus
-    last = let w = window_end e s in omega arith
+-- its base is a multiple of 2^20
+whole_mib : (e : Entry) → entry_sound e ≡ true → e.base % 2 ^ 20 ≡ 0
+whole_mib e h = eqb-true (e.base % 2 ^ 20) 0 (search (and_l, and_r))
 
-    first : first_byte f ≡ bus_start f.base f.start_bus
-    first = let w = window_end f t in let o = in_order f t in omega arith
+-- so that its window is of whole MiB, and windows that share no MiB share no byte
+pub windows_fit : (e f : Entry) → entry_sound e ≡ true → entry_sound f ≡ true
+    → ltb (last_mib e) (first_mib f) ≡ leb (bus_end e.base e.end_bus) (bus_start f.base f.start_bus)
+windows_fit e f s t = same_test _ _
+    (λ h. let k = ltb-true (last_mib e) (first_mib f) h in le-leb (bus_end e.base e.end_bus) (bus_start f.base f.start_bus) (omega (arith, last, first)))
+    (λ h. let k = leb-true (bus_end e.base e.end_bus) (bus_start f.base f.start_bus) h in lt-ltb (last_mib e) (first_mib f) (omega (arith, last, first)))
+  where
+    last : (last_mib e + 1) * 2 ^ 20 ≡ bus_end e.base e.end_bus
+    last = let w = whole_mib e s in omega arith
+
+    first : first_mib f * 2 ^ 20 ≡ bus_start f.base f.start_bus
+    first = let w = whole_mib f t in omega arith

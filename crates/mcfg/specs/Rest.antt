@@ -1,5 +1,5 @@
 -- The conditions of `mcfg_sound` as the code tests them: the header first, then the records of the entries.
-use Rattle.std.specs.Prelude.{ℕ, ◌+◌, ◌-◌, ◌*◌, ◌%◌, ◌^◌, Bool, true, ◌&&◌, ◌||◌, List, [], ◌∷◌, eqb, leb, ltb, length, take}
+use Rattle.std.specs.Prelude.{ℕ, ◌+◌, ◌-◌, ◌*◌, ◌/◌, ◌%◌, ◌^◌, Bool, true, ◌&&◌, ◌||◌, List, [], ◌∷◌, eqb, leb, ltb, length, take}
 use Rattle.rules.specs.Limits.{max_entries}
 use Rattle.rules.specs.Numbers.{byte, dword, sum, same_bytes}
 use Rattle.rules.specs.Mcfg.{entries, entry_at, signature, bus_start, bus_end, share_no_bus, share_no_byte}
@@ -20,20 +20,20 @@ header_sound m =
 abbrev pub entry_in : List ℕ → Entry
 entry_in r = entry_at r 0
 
--- the first and the last byte of an entry's window, in 64 bits
-abbrev pub first_byte : Entry → ℕ
-first_byte e = (e.base + e.start_bus * 2 ^ 20) % 2 ^ 64
+-- the first and the last MiB of an entry's window, counted from address 0: each bus has a MiB, where the base is a multiple of 2^20
+abbrev pub first_mib : Entry → ℕ
+first_mib e = e.base / 2 ^ 20 + e.start_bus
 
-abbrev pub last_byte : Entry → ℕ
-last_byte e = (e.base + (e.end_bus * 2 ^ 20 + (2 ^ 20 - 1))) % 2 ^ 64
+abbrev pub last_mib : Entry → ℕ
+last_mib e = e.base / 2 ^ 20 + e.end_bus
 
 -- two entries share neither a bus nor a byte
 abbrev pub apart : Entry → Entry → Bool
 apart e f = share_no_bus e f && share_no_byte e f
 
--- the same, by the first and the last bytes of their windows
+-- the same, by the first and the last MiB of their windows
 abbrev pub windows_apart : Entry → Entry → Bool
-windows_apart e f = ltb (last_byte e) (first_byte f) || ltb (last_byte f) (first_byte e)
+windows_apart e f = ltb (last_mib e) (first_mib f) || ltb (last_mib f) (first_mib e)
 
 abbrev pub seen_apart : Entry → Entry → Bool
 seen_apart e f = share_no_bus e f && windows_apart e f
@@ -46,9 +46,9 @@ buses_below e f = ltb (e.segment * 256 + e.end_bus) (f.segment * 256 + f.start_b
 abbrev pub below : Entry → Entry → Bool
 below e f = buses_below e f && leb (bus_end e.base e.end_bus) (bus_start f.base f.start_bus)
 
--- the same, by the first and the last bytes of their windows
+-- the same, by the first and the last MiB of their windows
 abbrev pub seen_below : Entry → Entry → Bool
-seen_below e f = buses_below e f && ltb (last_byte e) (first_byte f)
+seen_below e f = buses_below e f && ltb (last_mib e) (first_mib f)
 
 -- each entry is below the next
 abbrev pub rising : (Entry → Entry → Bool) → List Entry → Bool

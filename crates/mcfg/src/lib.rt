@@ -6,7 +6,7 @@ ghost use Rattle.rules.specs.Lists.{every, pairwise};
 ghost use Rattle.rules.specs.Mcfg.{entries, bus_start, bus_end, entry_sound, share_no_bus, mcfg_sound};
 ghost use Rattle.rules.specs.Start.{inside, entry_of};
 ghost use Rattle.mcfg.specs.Found.{answer_of};
-ghost use Rattle.mcfg.specs.Rest.{header_sound, entry_in, first_byte, last_byte, windows_apart, seen_apart, seen_below, rising};
+ghost use Rattle.mcfg.specs.Rest.{header_sound, entry_in, first_mib, last_mib, windows_apart, seen_apart, seen_below, rising};
 
 use rules::constants::{BUS_BYTES, MAX_ENTRIES};
 use rules::{BridgeRow, Entry};
@@ -79,26 +79,25 @@ fn share_no_bus(e: Entry, f: Entry) -> bool
     (e.end_bus < f.start_bus) | (f.end_bus < e.start_bus)
 }
 
-// The first byte of its window, which is below 2^64 if the entry is sound.
-fn first_byte(e: Entry) -> u64
-    ensures { result ≡ first_byte e }
+// The first MiB of its window, counted from address 0: each bus has a MiB, where the base is a multiple of 2^20. No sum of a base and a bus wraps so.
+fn first_mib(e: Entry) -> u64
+    ensures { result ≡ first_mib e }
 {
-    e.base.wrapping_add(u64::from(e.start_bus) * BUS_BYTES)
+    e.base / BUS_BYTES + u64::from(e.start_bus)
 }
 
-// The last byte of its window, which is below 2^64 if the entry is sound.
-fn last_byte(e: Entry) -> u64
-    ensures { result ≡ last_byte e }
+// The last MiB of its window.
+fn last_mib(e: Entry) -> u64
+    ensures { result ≡ last_mib e }
 {
-    e.base
-        .wrapping_add(u64::from(e.end_bus) * BUS_BYTES + (BUS_BYTES - 1))
+    e.base / BUS_BYTES + u64::from(e.end_bus)
 }
 
-// The windows of two entries share no byte.
+// The windows of two entries share no byte: being of whole MiB, no MiB.
 fn share_no_byte(e: Entry, f: Entry) -> bool
     ensures { result ≡ windows_apart e f }
 {
-    (last_byte(e) < first_byte(f)) | (last_byte(f) < first_byte(e))
+    (last_mib(e) < first_mib(f)) | (last_mib(f) < first_mib(e))
 }
 
 // Neither a bus nor a byte.
@@ -120,7 +119,7 @@ fn below(e: Entry, f: Entry) -> bool
     ensures { result ≡ seen_below e f }
 {
     (bus_number(e.segment, e.end_bus) < bus_number(f.segment, f.start_bus))
-        & (last_byte(e) < first_byte(f))
+        & (last_mib(e) < first_mib(f))
 }
 
 // Every entry is sound.

@@ -33,12 +33,12 @@ module _ (x : StartInput) where
   unfolding start_table start_number
   table_refused m = rw m (refl, refl)
 
-  rows_refused : mcfg_sound x.mcfg ≡ true → rows_sound es x.rows ≡ false → Refused 7
+  pub rows_refused : mcfg_sound x.mcfg ≡ true → rows_sound es x.rows ≡ false → Refused 7
   unfolding start_table start_number
   rows_refused m r = rw (m, r) (refl, refl)
 
   -- a start that is not refused
-  all_admitted : mcfg_sound x.mcfg ≡ true → rows_sound es x.rows ≡ true → (0 ≡ start_number x) × (table_of (map (bridge_of es) x.rows) ≡ start_table x)
+  pub all_admitted : mcfg_sound x.mcfg ≡ true → rows_sound es x.rows ≡ true → (0 ≡ start_number x) × (table_of (map (bridge_of es) x.rows) ≡ start_table x)
   unfolding start_table start_number
   all_admitted m r = rw (m, r) (refl, refl)
 
